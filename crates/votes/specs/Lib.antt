@@ -1,0 +1,3 @@
+pub mod Ballots
+pub mod Fixing
+pub mod Views
