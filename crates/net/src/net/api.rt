@@ -16,6 +16,7 @@ use crate::find::find_begin;
 use crate::find::find_vote;
 use crate::find::row_at;
 use quorum::Policy;
+use rules::call::Call;
 use rules::call::Vote;
 use rules::message::Message;
 use rules::role::Role;
@@ -159,5 +160,29 @@ impl Net {
     {
         let asked = find_advance(&self.core, policy, vault, list, site);
         carry(&mut self.core, vault, list, asked)
+    }
+
+    // Makes a call, whichever it is.
+    pub fn make<P: Policy, V: Vault>(
+        &mut self,
+        policy: &P,
+        vault: &mut V,
+        list: &mut [Message],
+        call: Call,
+    ) -> Result<(), Refusal>
+        ensures answer { λ r. ⌜ r ≡ answer (P·Policy .commits (now (policy .entry))) (P·Policy .aborts (now (policy .entry))) (P·Policy .sites (now (policy .entry))) (V·Vault .sites (now (vault .entry))) (V·Vault .left (now (vault .entry))) (world (now (self .entry) .core) (V·Vault .entries (now (vault .entry))) (now (list .entry))) call ⌝ }
+        ensures records { λ _. ⌜ V·Vault .entries (now (vault .exit)) ≡ after (P·Policy .commits (now (policy .entry))) (P·Policy .aborts (now (policy .entry))) (P·Policy .sites (now (policy .entry))) (V·Vault .sites (now (vault .entry))) (V·Vault .left (now (vault .entry))) (world (now (self .entry) .core) (V·Vault .entries (now (vault .entry))) (now (list .entry))) call .entries ⌝ }
+        ensures roles { λ _. ⌜ now (self .exit) .core ≡ after (P·Policy .commits (now (policy .entry))) (P·Policy .aborts (now (policy .entry))) (P·Policy .sites (now (policy .entry))) (V·Vault .sites (now (vault .entry))) (V·Vault .left (now (vault .entry))) (world (now (self .entry) .core) (V·Vault .entries (now (vault .entry))) (now (list .entry))) call .net ⌝ }
+        ensures list { λ _. ⌜ now (list .exit) ≡ after (P·Policy .commits (now (policy .entry))) (P·Policy .aborts (now (policy .entry))) (P·Policy .sites (now (policy .entry))) (V·Vault .sites (now (vault .entry))) (V·Vault .left (now (vault .entry))) (world (now (self .entry) .core) (V·Vault .entries (now (vault .entry))) (now (list .entry))) call .messages ⌝ }
+        ensures left { λ _. ⌜ Left (writes (P·Policy .commits (now (policy .entry))) (P·Policy .aborts (now (policy .entry))) (P·Policy .sites (now (policy .entry))) (V·Vault .sites (now (vault .entry))) (V·Vault .left (now (vault .entry))) (world (now (self .entry) .core) (V·Vault .entries (now (vault .entry))) (now (list .entry))) call) (V·Vault .left (now (vault .entry))) (V·Vault .left (now (vault .exit))) ⌝ }
+        ensures sites { λ _. ⌜ V·Vault .sites (now (vault .exit)) ≡ V·Vault .sites (now (vault .entry)) ⌝ }
+        ensures memory { λ _. ⌜ V·Vault .tied (now (vault .entry)) (now (vault .exit)) ⌝ }
+    {
+        match call {
+            Call::Begin(vote) => self.begin(policy, vault, list, vote),
+            Call::Vote(place, vote) => self.vote(policy, vault, list, place, vote),
+            Call::Deliver(place) => self.deliver(policy, vault, list, place),
+            Call::Advance(site) => self.advance(policy, vault, list, site),
+        }
     }
 }
