@@ -1,0 +1,53 @@
+// The lines of the calls.
+ghost use mathlib.Core.Bool.{false, true};
+ghost use mathlib.Core.List.{[], _++_};
+ghost use mathlib.Core.Path.{_≡_};
+ghost use Prim.Native.Nat.{_<_};
+ghost use lib.ListN.{length};
+ghost use Rattle.std.specs.Of.String.{string-bytes};
+ghost use Rattle.std.specs.Vec.{made};
+ghost use Rattle.rows.specs.Rows.{row-sites, row-entries};
+ghost use Rattle.rules.specs.World.{world};
+ghost use Rattle.tokens.specs.Ahead.{ahead};
+ghost use Rattle.votes.specs.Views.{ballot};
+ghost use Rattle.rehearsal.specs.Transcript.{call-text, call-world, played};
+use crate::memory::OutOfMemory;
+use crate::text::all_sites;
+use crate::text::answered;
+use crate::text::unreadable;
+use net::net::Net;
+use rows::rows::RowVault;
+use rows::rows::RowVaultVault;
+use rules::message::Message;
+use schedule::Line;
+use schedule::Reading;
+use schedule::Section;
+use schedule::read_line;
+use tokens::Reader;
+use votes::ballot::Votes;
+use votes::judging::VotesPolicy;
+
+// Makes the call of a line, and tells its answer.
+fn play_line(
+    text: &mut String,
+    reading: Reading,
+    net: &mut Net,
+    policy: &Votes,
+    vault: &mut RowVault,
+    list: &mut [Message],
+) -> Result<(), OutOfMemory>
+    ensures text { λ r. ⌜ made r (λ _. string-bytes (now (text .exit)) ≡ string-bytes (now (text .entry)) ++ call-text (ballot (now (policy .entry))) (row-sites (now (vault .entry))) (world (now (net .entry) .core) (row-entries (now (vault .entry))) (now (list .entry))) (reading .number) (reading .line)) ⌝ }
+    ensures net { λ _. ⌜ now (net .exit) .core ≡ call-world (ballot (now (policy .entry))) (row-sites (now (vault .entry))) (world (now (net .entry) .core) (row-entries (now (vault .entry))) (now (list .entry))) (reading .line) .net ⌝ }
+    ensures records { λ _. ⌜ row-entries (now (vault .exit)) ≡ call-world (ballot (now (policy .entry))) (row-sites (now (vault .entry))) (world (now (net .entry) .core) (row-entries (now (vault .entry))) (now (list .entry))) (reading .line) .entries ⌝ }
+    ensures list { λ _. ⌜ now (list .exit) ≡ call-world (ballot (now (policy .entry))) (row-sites (now (vault .entry))) (world (now (net .entry) .core) (row-entries (now (vault .entry))) (now (list .entry))) (reading .line) .messages ⌝ }
+    ensures sites { λ _. ⌜ row-sites (now (vault .exit)) ≡ row-sites (now (vault .entry)) ⌝ }
+{
+    match reading.line {
+        Ok(Line::Call(call)) => {
+            let answer = net.make(policy, vault, list, call);
+            answered(text, reading.number, answer)
+        }
+        Ok(_) => unreadable(text, reading.number, 1),
+        Err(place) => unreadable(text, reading.number, place.field),
+    }
+}
