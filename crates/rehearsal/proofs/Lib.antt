@@ -1,1 +1,3 @@
+mod Opening
+mod Playing
 mod Sites

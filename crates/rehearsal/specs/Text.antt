@@ -12,6 +12,7 @@ use Rattle.sites.specs.declared.refusal.Refusal.the-variants as refusal
 use Rattle.rules.specs.Entries.{Entry}
 use Rattle.rules.specs.Letters.{letter-of}
 use Rattle.rules.specs.World.{no-entry}
+use Rattle.rules.specs.declared.state.State.{State}
 
 -- 0 for an accepted call, else the number of the refusal
 abbrev pub answer-number : Result (Unit {0}) Refusal → ℕ
@@ -27,9 +28,15 @@ abbrev pub unreadable-line : ℕ → ℕ → List ℕ
 unreadable-line k f = decimal k ++ (codes "," ++ (decimal (number refusal.Unreadable) ++ (codes "," ++ (decimal f ++ codes "\n"))))
 
 -- a site's number and record
+abbrev pub site-state : ℕ → State → List ℕ
+site-state s t = decimal s ++ (codes "," ++ (letter-of t ∷ []))
+
+abbrev pub record-numbers : Entry → List ℕ
+record-numbers e =
+    codes "," ++ (decimal (e .elected) ++ (codes "," ++ (decimal (e .attempt) ++ (codes "," ++ (decimal (e .lead) ++ codes "\n")))))
+
 abbrev pub site-line : ℕ → Entry → List ℕ
-site-line s e =
-    decimal s ++ (codes "," ++ ((letter-of (e .state) ∷ []) ++ (codes "," ++ (decimal (e .elected) ++ (codes "," ++ (decimal (e .attempt) ++ (codes "," ++ (decimal (e .lead) ++ codes "\n"))))))))
+site-line s e = site-state s (e .state) ++ record-numbers e
 
 -- the lines of the first n sites
 unfoldable pub site-lines : ℕ → List Entry → List ℕ

@@ -1,7 +1,7 @@
 -- What a schedule prints.
 use mathlib.Core.Bool.{Bool, cond}
 use mathlib.Core.List.{List, [], _∷_, _++_}
-use Prim.Native.Nat.{ℕ}
+use Prim.Native.Nat.{ℕ, min}
 use lib.Dec.{ltb}
 use lib.ListN.{length, replicate, take}
 use Rattle.std.specs.declared.result.Result.{Result}
@@ -31,13 +31,13 @@ row-left = 1000000
 -- a line of the calls, over a net with policy b and n sites in the vault
 abbrev pub call-text : Ballot → ℕ → World → ℕ → Result Line Place → List ℕ
 call-text b n w k (Ok (line.Call c)) = answer-line k (answer (commits-of b) (aborts-of b) (b .sites) n row-left w c)
-call-text b n w k (Ok (line.Roster s f)) = unreadable-line k 1
+call-text b n w k (Ok (line.Roster o)) = unreadable-line k 1
 call-text b n w k (Ok (line.Votes v)) = unreadable-line k 1
 call-text b n w k (Err p) = unreadable-line k (p .field)
 
 abbrev pub call-world : Ballot → ℕ → World → Result Line Place → World
 call-world b n w (Ok (line.Call c)) = after (commits-of b) (aborts-of b) (b .sites) n row-left w c
-call-world b n w (Ok (line.Roster s f)) = w
+call-world b n w (Ok (line.Roster o)) = w
 call-world b n w (Ok (line.Votes v)) = w
 call-world b n w (Err p) = w
 
@@ -58,12 +58,15 @@ fixed-text (Err x) b c n f k rs = answer-line k (Err x)
 
 -- the votes of the sites that a line gives
 abbrev pub votes-of : Ballots → List ℕ
-votes-of v = take (v .sites) (v .votes)
+votes-of v = take (min (v .sites) 16) (v .votes)
+
+abbrev pub votes-text : Core → ℕ → ℕ → ℕ → Ballots → List Row → List ℕ
+votes-text c n f k v rs =
+    fixed-text (fix-answer (v .commit) (v .abort) (votes-of v)) (fix-ballot (v .commit) (v .abort) (votes-of v) unfixed) c n f k rs
 
 abbrev pub policy-text : Core → ℕ → ℕ → ℕ → Result Line Place → List Row → List ℕ
-policy-text c n f k (Ok (line.Votes v)) rs =
-    fixed-text (fix-answer (v .commit) (v .abort) (votes-of v)) (fix-ballot (v .commit) (v .abort) (votes-of v) unfixed) c n f k rs
-policy-text c n f k (Ok (line.Roster s g)) rs = unreadable-line k 1
+policy-text c n f k (Ok (line.Votes v)) rs = votes-text c n f k v rs
+policy-text c n f k (Ok (line.Roster o)) rs = unreadable-line k 1
 policy-text c n f k (Ok (line.Call x)) rs = unreadable-line k 1
 policy-text c n f k (Err p) rs = unreadable-line k (p .field)
 
@@ -77,7 +80,7 @@ opened-text (Ok c) n f k rs = answer-line k (Ok tt) ++ after-roster c n f rs
 opened-text (Err x) n f k rs = answer-line k (Err x)
 
 abbrev pub roster-text : ℕ → Result Line Place → List Row → List ℕ
-roster-text k (Ok (line.Roster n f)) rs = opened-text (opening n f) n f k rs
+roster-text k (Ok (line.Roster o)) rs = opened-text (opening (o .sites) (o .first)) (o .sites) (o .first) k rs
 roster-text k (Ok (line.Votes v)) rs = unreadable-line k 1
 roster-text k (Ok (line.Call x)) rs = unreadable-line k 1
 roster-text k (Err p) rs = unreadable-line k (p .field)

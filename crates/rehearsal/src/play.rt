@@ -11,6 +11,7 @@ ghost use Rattle.rules.specs.World.{world};
 ghost use Rattle.tokens.specs.Ahead.{ahead};
 ghost use Rattle.votes.specs.Views.{ballot};
 ghost use Rattle.rehearsal.specs.Transcript.{call-text, call-world, played};
+ghost use Rattle.rehearsal.specs.Loops.{Falls};
 use crate::memory::OutOfMemory;
 use crate::text::all_sites;
 use crate::text::answered;
@@ -50,4 +51,39 @@ fn play_line(
         Ok(_) => unreadable(text, reading.number, 1),
         Err(place) => unreadable(text, reading.number, place.field),
     }
+}
+
+// Plays the next line of the calls; false where there is none.
+fn play_next(
+    text: &mut String,
+    reader: &mut Reader,
+    net: &mut Net,
+    policy: &Votes,
+    vault: &mut RowVault,
+    list: &mut [Message],
+) -> Result<bool, OutOfMemory>
+    ensures text { λ r. ⌜ made r (λ _. string-bytes (now (text .exit)) ++ played (ballot (now (policy .entry))) (row-sites (now (vault .exit))) (world (now (net .exit) .core) (row-entries (now (vault .exit))) (now (list .exit))) (ahead (now (reader .exit))) ≡ string-bytes (now (text .entry)) ++ played (ballot (now (policy .entry))) (row-sites (now (vault .entry))) (world (now (net .entry) .core) (row-entries (now (vault .entry))) (now (list .entry))) (ahead (now (reader .entry)))) ⌝ }
+    ensures reader { λ r. ⌜ made r (λ more. Falls more (ahead (now (reader .entry))) (ahead (now (reader .exit)))) ⌝ }
+    ensures sites { λ _. ⌜ row-sites (now (vault .exit)) ≡ row-sites (now (vault .entry)) ⌝ }
+{
+    let Some(reading) = read_line(reader, Section::Calls) else {
+        return Ok(false);
+    };
+    play_line(text, reading, net, policy, vault, list)?;
+    Ok(true)
+}
+
+// Plays all lines of the calls, and tells the records of the sites in the end.
+pub(crate) fn play(
+    text: &mut String,
+    reader: &mut Reader,
+    net: &mut Net,
+    policy: &Votes,
+    vault: &mut RowVault,
+    list: &mut [Message],
+) -> Result<(), OutOfMemory>
+    ensures { λ r. ⌜ made r (λ _. string-bytes (now (text .exit)) ≡ string-bytes (now (text .entry)) ++ played (ballot (now (policy .entry))) (row-sites (now (vault .entry))) (world (now (net .entry) .core) (row-entries (now (vault .entry))) (now (list .entry))) (ahead (now (reader .entry)))) ⌝ }
+{
+    while play_next(text, reader, net, policy, vault, list)? {}
+    all_sites(text, vault)
 }

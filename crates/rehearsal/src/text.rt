@@ -5,12 +5,13 @@ ghost use Rattle.std.specs.Of.String.{string-bytes};
 ghost use Rattle.std.specs.Vec.{made};
 ghost use Rattle.rules.specs.Entries.{plain};
 ghost use Rattle.rows.specs.Rows.{row-sites, row-entries};
-ghost use Rattle.rehearsal.specs.Text.{answer-line, unreadable-line, site-line, site-lines};
+ghost use Rattle.rehearsal.specs.Text.{answer-line, unreadable-line, site-line, site-lines, site-state, record-numbers};
 use crate::memory::OutOfMemory;
 use crate::memory::OutOfMemoryFromFormat;
 use rows::rows::RowVault;
 use rows::rows::RowVaultVault;
 use rules::record::Record;
+use rules::state::State;
 use sites::Site;
 use sites::refusal::Refusal;
 use std::fmt::Write;
@@ -41,16 +42,32 @@ pub(crate) fn unreadable(text: &mut String, line: usize, field: usize) -> Result
     Ok(())
 }
 
+// A site's number and the letter of its state.
+fn site_state(text: &mut String, number: Site, state: State) -> Result<(), OutOfMemory>
+    ensures { λ r. ⌜ made r (λ _. string-bytes (now (text .exit)) ≡ string-bytes (now (text .entry)) ++ site-state number state) ⌝ }
+{
+    let letter = state.letter();
+    write!(text, "{number},{letter}")?;
+    Ok(())
+}
+
+// The numbers of a record, to the end of the line.
+fn record_numbers(text: &mut String, own: Record) -> Result<(), OutOfMemory>
+    ensures { λ r. ⌜ made r (λ _. string-bytes (now (text .exit)) ≡ string-bytes (now (text .entry)) ++ record-numbers (plain own)) ⌝ }
+{
+    let elected = own.elected;
+    let attempt = own.attempt;
+    let lead = own.lead;
+    write!(text, ",{elected},{attempt},{lead}\n")?;
+    Ok(())
+}
+
 // A site's number and record.
 fn site(text: &mut String, number: Site, own: Record) -> Result<(), OutOfMemory>
     ensures { λ r. ⌜ made r (λ _. string-bytes (now (text .exit)) ≡ string-bytes (now (text .entry)) ++ site-line number (plain own)) ⌝ }
 {
-    let letter = own.state.letter();
-    let elected = own.elected;
-    let attempt = own.attempt;
-    let lead = own.lead;
-    write!(text, "{number},{letter},{elected},{attempt},{lead}\n")?;
-    Ok(())
+    site_state(text, number, own.state)?;
+    record_numbers(text, own)
 }
 
 // All sites with their records.

@@ -35,7 +35,7 @@ closed-at l r = as-end l (token r)
 -- the forms, each from the field after its word on
 
 abbrev pub roster-line : Row → Result Line Place
-roster-line r = then (number-at r) (λ n. then (number-at (past r)) (λ f. closed-at (line.Roster n f) (past (past r))))
+roster-line r = then (number-at r) (λ n. then (number-at (past r)) (λ f. closed-at (line.Roster (record { sites = n; first = f })) (past (past r))))
 
 abbrev pub begin-line : Row → Result Line Place
 begin-line r = then (vote-at r) (λ v. closed-at (line.Call (call.Begin v)) (past r))

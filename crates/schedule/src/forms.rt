@@ -8,6 +8,7 @@ ghost use Rattle.schedule.specs.Lines.{closed-at, padded, roster-line, votes-l
 use crate::line::Ballots;
 use crate::line::Line;
 use crate::line::MOST_SITES;
+use crate::line::Roster;
 use crate::words::vote_of;
 use rules::call::Call;
 use rules::call::Vote;
@@ -59,7 +60,7 @@ pub(crate) fn roster(reader: &mut Reader) -> Result<Line, Place>
 {
     let sites = number(reader)?;
     let first = number(reader)?;
-    closed(Line::Roster { sites, first }, reader)
+    closed(Line::Roster(Roster { sites, first }), reader)
 }
 
 pub(crate) fn begin(reader: &mut Reader) -> Result<Line, Place>

@@ -8,5 +8,6 @@ pub use line::Ballots;
 pub use line::Line;
 pub use line::MOST_SITES;
 pub use line::Reading;
+pub use line::Roster;
 pub use line::Section;
 pub use read::read_line;

@@ -4,6 +4,13 @@ use tokens::Place;
 // The most sites whose votes a line can give.
 pub const MOST_SITES: usize = 16;
 
+// The number of sites, and the first coordinator.
+#[derive(Clone, Copy)]
+pub struct Roster {
+    pub sites: u32,
+    pub first: u32,
+}
+
 // A policy's two numbers and the votes of each of the sites, followed by zeros.
 #[derive(Clone, Copy)]
 pub struct Ballots {
@@ -24,7 +31,7 @@ pub enum Section {
 // What a line says.
 #[derive(Clone, Copy)]
 pub enum Line {
-    Roster { sites: u32, first: u32 },
+    Roster(Roster),
     Votes(Ballots),
     Call(Call),
 }

@@ -1,7 +1,6 @@
-use mathlib.Core.Path.{_≡_, ap, _∙_}
-use lib.Utf8.{encode}
-use Rattle.rehearsal.proofs.Sites.{letter-encoded}
+use borrow.Author.Needs.{needs}
+use Rattle.std.proofs.shelf.Lists.{append-assoc}
 use Rattle.rehearsal.proofs.text.site.Needs as need
 
 pub returns : need.returns
-returns c = let e = ap encode (c .letter-letter .ensures) ∙ letter-encoded (c .args .own .state) in cc
+returns c = search (needs, append-assoc)
