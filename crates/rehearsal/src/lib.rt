@@ -5,4 +5,5 @@ mod stage;
 mod text;
 
 pub use memory::OutOfMemory;
+pub use memory::OutOfMemoryDebug;
 pub use stage::rehearse;
