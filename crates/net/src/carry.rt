@@ -2,14 +2,17 @@
 ghost use mathlib.Core.Path.{_≡_};
 ghost use Prim.Native.Nat.{ℕ, _+_, _<_, _≤_};
 ghost use Rattle.std.specs.Vec.{made};
-ghost use Rattle.rules.specs.World.{world, admitted, applied, answer-of, after-of, accepted, Left};
+ghost use Rattle.rules.specs.World.{world, with-rows, with-role, admitted, applied, answer-of, after-of, accepted, Left};
 ghost use Rattle.steps.specs.Steps.{plain-step, planned};
 ghost use Rattle.net.specs.Bounds.{Bounded, Lasting, Near, Within};
 ghost use mathlib.Core.Bool.{true};
 use post::has_room;
 use post::send;
 use rules::message::Message;
+use rules::role::Role;
 use rules::rows::Core;
+use rules::rows::Row;
+use sites::Site;
 use sites::refusal::Refusal;
 use sites::set::size;
 use steps::step::Step;
@@ -39,6 +42,22 @@ fn admit<V: Vault>(
     Ok(step)
 }
 
+// The site of the row has another role now.
+fn take_role(row: &mut Row, role: Option<Role>)
+    ensures up { λ _. ⌜ now (row .exit) .up ≡ now (row .entry) .up ⌝ }
+    ensures role { λ _. ⌜ now (row .exit) .role ≡ role ⌝ }
+{
+    row.role = role;
+}
+
+// The row of a site is lent for its new role.
+fn set_role(core: &mut Core, site: Site, role: Option<Role>)
+    requires { ⌜ site < 16 ⌝ }
+    ensures { λ _. ⌜ now (core .exit) ≡ with-rows (now (core .entry)) (now (core .entry) .sent) (with-role (now (core .entry)) site role) ⌝ }
+{
+    take_role(&mut core.rows.row[site as usize], role);
+}
+
 // An admitted step is made: nothing in here is refused.
 fn apply<V: Vault>(core: &mut Core, vault: &mut V, list: &mut [Message], step: Step)
     requires { ⌜ Within (world (now core) (V·Vault .entries (now vault)) (now list)) (V·Vault .sites (now vault)) (V·Vault .left (now vault)) (plain-step step) ⌝ }
@@ -51,7 +70,7 @@ fn apply<V: Vault>(core: &mut Core, vault: &mut V, list: &mut [Message], step: S
     ensures lasting { λ _. ⌜ Lasting (now (core .entry)) (now (core .exit)) ⌝ }
 {
     let _ = vault.write(step.site, step.own);
-    core.rows.row[step.site as usize].role = step.role;
+    set_role(core, step.site, step.role);
     let _ = send(
         list,
         core.sent,

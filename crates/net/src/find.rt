@@ -5,15 +5,15 @@ ghost use lib.ListN.{length, getD};
 ghost use Rattle.std.specs.Vec.{made};
 ghost use Rattle.rules.specs.Calls.{fitting, asked-begin, asked-vote, asked-advance, found, to-vote, to-deliver-at, sound};
 ghost use Rattle.rules.specs.Entries.{plain};
-ghost use Rattle.rules.specs.World.{world, row-at, no-entry};
+ghost use Rattle.rules.specs.World.{world, row-at, role-answer, no-entry};
 ghost use Rattle.steps.specs.Steps.{planned};
 ghost use Rattle.net.specs.Bounds.{Bounded, Near};
 use quorum::Policy;
 use rules::call::Vote;
 use rules::message::Kind;
-use rules::message::KindPartialEq;
 use rules::message::Message;
 use rules::record::Record;
+use rules::role::Role;
 use rules::rows::Core;
 use rules::rows::Row;
 use sites::Site;
@@ -37,6 +37,18 @@ pub(crate) fn row_at(core: &Core, site: Site) -> Row
     ensures { λ r. ⌜ r ≡ row-at (now (core .entry)) site ⌝ }
 {
     core.rows.row[site as usize]
+}
+
+// What a site is doing as a coordinator, if it is one: the answer that a user gets, and that advance takes apart.
+pub(crate) fn role_of(core: &Core, site: Site) -> Result<Option<Role>, Refusal>
+    requires { ⌜ Bounded (now core) ⌝ }
+    ensures is { λ r. ⌜ r ≡ role-answer (now (core .entry)) site ⌝ }
+    ensures known { λ r. ⌜ made r (λ _. site < now (core .entry) .sites) ⌝ }
+{
+    if site >= core.sites {
+        return Err(Refusal::UnknownSite);
+    }
+    Ok(row_at(core, site).role)
 }
 
 // The record of a site that the vault has.
@@ -89,15 +101,12 @@ pub(crate) fn find_advance<P: Policy, V: Vault>(
     if !fits(core, policy, vault, list) {
         return Err(Refusal::Mismatch);
     }
-    if site >= core.sites {
-        return Err(Refusal::UnknownSite);
-    }
-    let row = row_at(core, site);
-    if !row.up {
+    let role = role_of(core, site)?;
+    if !row_at(core, site).up {
         return Err(Refusal::WrongPower);
     }
     let own = record_of(vault, site);
-    coordinator::advance(policy, everyone(core.sites), site, own, row.role)
+    coordinator::advance(policy, everyone(core.sites), site, own, role)
 }
 
 // The message at a place.
@@ -143,7 +152,7 @@ fn find_start<P: Policy, V: Vault>(
     ensures near { λ r. ⌜ made r (λ m. Near (V·Vault .sites (now (vault .entry))) (m .receiver)) ⌝ }
 {
     let message = find(core, policy, vault, list, place)?;
-    if message.kind != Kind::Start {
+    if !matches!(message.kind, Kind::Start) {
         return Err(Refusal::WrongKind);
     }
     if !row_at(core, message.receiver).up {
@@ -165,7 +174,7 @@ pub(crate) fn find_message<P: Policy, V: Vault>(
     ensures near { λ r. ⌜ made r (λ m. Near (V·Vault .sites (now (vault .entry))) (m .receiver)) ⌝ }
 {
     let message = find(core, policy, vault, list, place)?;
-    if message.kind == Kind::Start {
+    if matches!(message.kind, Kind::Start) {
         return Err(Refusal::WrongKind);
     }
     if !row_at(core, message.receiver).up {

@@ -2,20 +2,15 @@
 use mathlib.Core.Bool.{Bool, cond}
 use mathlib.Core.List.{List, _++_}
 use mathlib.Core.Path.{_≡_}
-use Prim.Native.Nat.{ℕ, _+_, _≤_, min}
-use lib.Dec.{leb}
+use Prim.Native.Nat.{ℕ, _+_, _≤_}
 use lib.ListN.{length, take, drop}
 use Rattle.std.specs.declared.result.Result.{Result}
 use Rattle.std.specs.declared.result.Result.the-variants.{Ok, Err}
 use Rattle.sites.specs.Sets.{size}
 use Rattle.sites.specs.declared.refusal.Refusal.{Refusal}
 use Rattle.sites.specs.declared.refusal.Refusal.the-variants as refusal
-use Rattle.rules.specs.Posting.{written}
+use Rattle.rules.specs.Posting.{written, room}
 use Rattle.rules.specs.declared.message.Message.{Message}
-
--- a list of k places, of which n are taken, has one more for each site of the set x
-abbrev pub room : ℕ → ℕ → ℕ → Bool
-room k n x = leb (n + size x) (min k 4096)
 
 abbrev pub send-answer : ℕ → ℕ → ℕ → Result ℕ Refusal
 send-answer k n x = cond (room k n x) (Ok (n + size x)) (Err refusal.ListFull)

@@ -2,9 +2,9 @@
 ghost use mathlib.Core.Path.{_≡_};
 ghost use Prim.Native.Nat.{ℕ, _+_, _≤_};
 ghost use lib.ListN.{length};
-ghost use Rattle.rules.specs.Posting.{broadcast, written};
+ghost use Rattle.rules.specs.Posting.{broadcast, written, room};
 ghost use Rattle.sites.specs.Sets.{size};
-ghost use Rattle.post.specs.Sent.{room, send-answer, list-after, Written-as};
+ghost use Rattle.post.specs.Sent.{send-answer, list-after, Written-as};
 use rules::message::Kind;
 use rules::message::Message;
 use sites::Site;

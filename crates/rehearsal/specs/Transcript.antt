@@ -14,6 +14,7 @@ use Rattle.rules.specs.declared.rows.Core.{Core}
 use Rattle.votes.specs.Ballots.{Ballot, commits-of, aborts-of, unfixed}
 use Rattle.votes.specs.Fixing.{fix-answer, fix-ballot}
 use Rattle.net.specs.Nets.{opening}
+use Rattle.rows.specs.Rows.{row-left}
 use Rattle.tokens.specs.Rows.{Row, rows}
 use Rattle.tokens.specs.Text.{lines}
 use Rattle.tokens.specs.declared.reader.Place.{Place}
@@ -23,10 +24,6 @@ use Rattle.schedule.specs.declared.line.Line.{Line}
 use Rattle.schedule.specs.declared.line.Line.the-variants as line
 use Rattle.schedule.specs.declared.line.Section.the-variants as section
 use Rattle.rehearsal.specs.Text.{answer-line, unreadable-line, site-lines}
-
--- what the row vault has left, always
-abbrev pub row-left : ℕ
-row-left = 1000000
 
 -- a line of the calls, over a net with policy b and n sites in the vault
 abbrev pub call-text : Ballot → ℕ → World → ℕ → Result Line Place → List ℕ

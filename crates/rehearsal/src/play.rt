@@ -6,9 +6,11 @@ ghost use Prim.Native.Nat.{_<_};
 ghost use lib.ListN.{length};
 ghost use Rattle.std.specs.Of.String.{string-bytes};
 ghost use Rattle.std.specs.Vec.{made};
-ghost use Rattle.rows.specs.Rows.{row-sites, row-entries};
+ghost use Rattle.rows.specs.Rows.{row-left, row-sites, row-entries};
+ghost use Rattle.rules.specs.Calls.{answer, after};
 ghost use Rattle.rules.specs.World.{world};
 ghost use Rattle.tokens.specs.Ahead.{ahead};
+ghost use Rattle.votes.specs.Ballots.{commits-of, aborts-of};
 ghost use Rattle.votes.specs.Views.{ballot};
 ghost use Rattle.rehearsal.specs.Transcript.{call-text, call-world, played};
 ghost use Rattle.rehearsal.specs.Loops.{Falls};
@@ -19,14 +21,38 @@ use crate::text::unreadable;
 use net::net::Net;
 use rows::rows::RowVault;
 use rows::rows::RowVaultVault;
+use rules::call::Call;
 use rules::message::Message;
 use schedule::Line;
 use schedule::Reading;
 use schedule::Section;
 use schedule::read_line;
+use sites::refusal::Refusal;
 use tokens::Reader;
 use votes::ballot::Votes;
 use votes::judging::VotesPolicy;
+
+// Makes a call, whichever it is.
+fn make_call(
+    net: &mut Net,
+    policy: &Votes,
+    vault: &mut RowVault,
+    list: &mut [Message],
+    call: Call,
+) -> Result<(), Refusal>
+    ensures answer { λ r. ⌜ r ≡ answer (commits-of (ballot (now (policy .entry)))) (aborts-of (ballot (now (policy .entry)))) ((ballot (now (policy .entry))) .sites) (row-sites (now (vault .entry))) row-left (world (now (net .entry) .core) (row-entries (now (vault .entry))) (now (list .entry))) call ⌝ }
+    ensures net { λ _. ⌜ now (net .exit) .core ≡ after (commits-of (ballot (now (policy .entry)))) (aborts-of (ballot (now (policy .entry)))) ((ballot (now (policy .entry))) .sites) (row-sites (now (vault .entry))) row-left (world (now (net .entry) .core) (row-entries (now (vault .entry))) (now (list .entry))) call .net ⌝ }
+    ensures records { λ _. ⌜ row-entries (now (vault .exit)) ≡ after (commits-of (ballot (now (policy .entry)))) (aborts-of (ballot (now (policy .entry)))) ((ballot (now (policy .entry))) .sites) (row-sites (now (vault .entry))) row-left (world (now (net .entry) .core) (row-entries (now (vault .entry))) (now (list .entry))) call .entries ⌝ }
+    ensures list { λ _. ⌜ now (list .exit) ≡ after (commits-of (ballot (now (policy .entry)))) (aborts-of (ballot (now (policy .entry)))) ((ballot (now (policy .entry))) .sites) (row-sites (now (vault .entry))) row-left (world (now (net .entry) .core) (row-entries (now (vault .entry))) (now (list .entry))) call .messages ⌝ }
+    ensures sites { λ _. ⌜ row-sites (now (vault .exit)) ≡ row-sites (now (vault .entry)) ⌝ }
+{
+    match call {
+        Call::Begin(vote) => net.begin(policy, vault, list, vote),
+        Call::Vote(place, vote) => net.vote(policy, vault, list, place, vote),
+        Call::Deliver(place) => net.deliver(policy, vault, list, place),
+        Call::Advance(site) => net.advance(policy, vault, list, site),
+    }
+}
 
 // Makes the call of a line, and tells its answer.
 fn play_line(
@@ -45,7 +71,7 @@ fn play_line(
 {
     match reading.line {
         Ok(Line::Call(call)) => {
-            let answer = net.make(policy, vault, list, call);
+            let answer = make_call(net, policy, vault, list, call);
             answered(text, reading.number, answer)
         }
         Ok(_) => unreadable(text, reading.number, 1),

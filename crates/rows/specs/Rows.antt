@@ -1,13 +1,14 @@
 -- A row vault by its memory.
-use mathlib.Core.Bool.{cond, _&&_}
+use mathlib.Core.Bool.{cond}
 use mathlib.Core.List.{List, [], map, _++_}
 use mathlib.Core.Path.{_≡_}
 use Prim.Native.Nat.{ℕ}
 use denote.Ref.{now, name}
-use lib.Dec.{leb, ltb}
+use lib.Dec.{leb}
 use lib.ListN.{take, drop, replicate}
 use Rattle.std.specs.declared.result.Result.{Result}
 use Rattle.std.specs.declared.result.Result.the-variants.{Ok, Err}
+use Rattle.sites.specs.Sets.{seated}
 use Rattle.sites.specs.declared.refusal.Refusal.{Refusal}
 use Rattle.sites.specs.declared.refusal.Refusal.the-variants as refusal
 use Rattle.rules.specs.Entries.{Entry, plain, starting}
@@ -23,6 +24,10 @@ plain-rows rs = map plain-row rs
 abbrev pub row-sites : RowVault → ℕ
 row-sites v = v .sites
 
+-- what is left, always
+abbrev pub row-left : ℕ
+row-left = 1000000
+
 -- the records are in the first rows
 abbrev pub row-entries : RowVault → List Entry
 row-entries v = take (v .sites) (plain-rows (now (v .rows)))
@@ -37,7 +42,7 @@ Same-memory v v' =
 -- the check of a memory of k rows for n sites under the first coordinator f
 abbrev pub opening : ℕ → ℕ → ℕ → Result (Unit {0}) Refusal
 opening k n f =
-    cond (leb 2 n && (leb n 16 && ltb f n))
+    cond (seated n f)
     (cond (leb n k) (Ok tt) (Err refusal.VaultFull))
     (Err refusal.SiteCount)
 

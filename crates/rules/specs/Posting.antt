@@ -1,9 +1,10 @@
 -- What goes into the message list.
-use mathlib.Core.Bool.{cond}
+use mathlib.Core.Bool.{Bool, cond}
 use mathlib.Core.List.{List, [], _∷_, _++_}
 use Prim.Native.Nat.{ℕ, zero, suc, _+_, min}
+use lib.Dec.{leb}
 use lib.ListN.{length, set}
-use Rattle.sites.specs.Sets.{has}
+use Rattle.sites.specs.Sets.{has, size}
 use Rattle.rules.specs.declared.message.Kind.{Kind}
 use Rattle.rules.specs.declared.message.Message.{Message}
 
@@ -24,6 +25,13 @@ abbrev pub written : List Message → ℕ → List Message → List Message
 written xs i [] = xs
 written xs i (m ∷ ms) = written (set xs i m) (i + 1) ms
 
--- how many places of a list count
+-- how many places of a list of that length count
+abbrev pub counting : ℕ → ℕ
+counting k = min k 4096
+
 abbrev pub places : List Message → ℕ
-places ms = min (length ms) 4096
+places ms = counting (length ms)
+
+-- a list of k places, of which n are taken, has one more for each site of the set x
+abbrev pub room : ℕ → ℕ → ℕ → Bool
+room k n x = leb (n + size x) (counting k)

@@ -14,7 +14,7 @@ use Rattle.sites.specs.declared.refusal.Refusal.{Refusal}
 use Rattle.sites.specs.declared.refusal.Refusal.the-variants as refusal
 use Rattle.rules.specs.Entries.{Entry, starting}
 use Rattle.rules.specs.Plans.{Plan}
-use Rattle.rules.specs.Posting.{broadcast, written, places, message}
+use Rattle.rules.specs.Posting.{broadcast, written, room, message}
 use Rattle.rules.specs.declared.message.Kind.the-variants as kind
 use Rattle.rules.specs.declared.message.Message.{Message}
 use Rattle.rules.specs.declared.role.Role.{Role}
@@ -42,6 +42,10 @@ no-message = message kind.Start 0 0 0
 abbrev pub row-at : Core → ℕ → Row
 row-at c s = getD (c .rows .row) s no-row
 
+-- the role of a known site, or that it has none
+abbrev pub role-answer : Core → ℕ → Result (Option Role) Refusal
+role-answer c s = cond (ltb s (c .sites)) (Ok (row-at c s .role)) (Err refusal.UnknownSite)
+
 abbrev pub entry-at : World → ℕ → Entry
 entry-at w s = getD (w .entries) s no-entry
 
@@ -63,7 +67,7 @@ applied w p =
 
 -- the list has places for the messages of the step
 abbrev pub placed : World → Result Plan Refusal → Result Plan Refusal
-placed w (Ok p) = cond (leb (w .net .sent + size (p .to)) (places (w .messages))) (Ok p) (Err refusal.ListFull)
+placed w (Ok p) = cond (room (length (w .messages)) (w .net .sent) (p .to)) (Ok p) (Err refusal.ListFull)
 placed w (Err x) = Err x
 
 -- what one write may cost

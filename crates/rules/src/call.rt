@@ -1,12 +1,12 @@
 // A site's vote on the approval.
-#[derive(Clone, Copy, PartialEq, Eq)]
+#[derive(Clone, Copy)]
 pub enum Vote {
     Yes,
     No,
 }
 
 // A call of the net, with its numbers as they were given.
-#[derive(Clone, Copy, PartialEq, Eq)]
+#[derive(Clone, Copy)]
 pub enum Call {
     // The first coordinator starts the approval with its own vote.
     Begin(Vote),

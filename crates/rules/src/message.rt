@@ -1,9 +1,8 @@
 use crate::state::State;
-use crate::state::StatePartialEq;
 use sites::Site;
 
 // What a message says; a report says what its sender's record held.
-#[derive(Clone, Copy, PartialEq, Eq)]
+#[derive(Clone, Copy)]
 pub enum Kind {
     Start,
     Yes,
@@ -18,7 +17,7 @@ pub enum Kind {
 }
 
 // A message, with the last elected number of its sender.
-#[derive(Clone, Copy, PartialEq, Eq)]
+#[derive(Clone, Copy)]
 pub struct Message {
     pub kind: Kind,
     pub number: u32,

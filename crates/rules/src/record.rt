@@ -1,10 +1,9 @@
 ghost use Prim.Native.Nat.{ℕ, _<_, _≤_};
 use crate::state::State;
-use crate::state::StatePartialEq;
 use sites::Site;
 
 // What a site keeps over an outage: lawful by its type, so every vault takes every record.
-#[derive(Clone, Copy, PartialEq, Eq)]
+#[derive(Clone, Copy)]
 pub struct Record {
     pub state: State,
     // The last elected number.

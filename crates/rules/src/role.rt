@@ -1,9 +1,8 @@
 use crate::state::Outcome;
-use crate::state::OutcomePartialEq;
 use sites::SiteSet;
 
 // The first coordinator counts votes.
-#[derive(Clone, Copy, PartialEq, Eq)]
+#[derive(Clone, Copy)]
 pub struct Poll {
     // The sites whose Yes was counted.
     pub yes: SiteSet,
@@ -12,7 +11,7 @@ pub struct Poll {
 }
 
 // An elected coordinator collects reports.
-#[derive(Clone, Copy, PartialEq, Eq)]
+#[derive(Clone, Copy)]
 pub struct Canvass {
     pub group: SiteSet,
     // The sites that have reported. The rest is about these.
@@ -28,7 +27,7 @@ pub struct Canvass {
 }
 
 // A coordinator collects acknowledgements of its attempt.
-#[derive(Clone, Copy, PartialEq, Eq)]
+#[derive(Clone, Copy)]
 pub struct Attempt {
     pub outcome: Outcome,
     pub group: SiteSet,
@@ -37,7 +36,7 @@ pub struct Attempt {
 }
 
 // What a coordinator is doing, in plain numbers.
-#[derive(Clone, Copy, PartialEq, Eq)]
+#[derive(Clone, Copy)]
 pub enum Role {
     Polling(Poll),
     Canvassing(Canvass),
@@ -45,7 +44,7 @@ pub enum Role {
 }
 
 // What the rule of a coordinator's next step gives.
-#[derive(Clone, Copy, PartialEq, Eq)]
+#[derive(Clone, Copy)]
 pub enum Ruling {
     // Try to bring a quorum to the outcome: pre-commit or pre-abort.
     Attempt(Outcome),

@@ -1,9 +1,8 @@
 use crate::role::Role;
-use crate::role::RolePartialEq;
 use sites::Site;
 
 // What a site has besides its record, and loses with its power.
-#[derive(Clone, Copy, PartialEq, Eq)]
+#[derive(Clone, Copy)]
 pub struct Row {
     pub up: bool,
     pub role: Option<Role>,

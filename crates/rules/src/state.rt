@@ -13,7 +13,7 @@ pub enum State {
 }
 
 // What is attempted or decided.
-#[derive(Clone, Copy, PartialEq, Eq)]
+#[derive(Clone, Copy)]
 pub enum Outcome {
     Commit,
     Abort,

@@ -24,13 +24,13 @@ or-bad (Some x) p = Ok x
 or-bad None p = Err p
 
 abbrev pub as-number : Seen → Result ℕ Place
-as-number (number n p) = Ok n
+as-number (number w n p) = Ok n
 as-number (word w p) = Err p
 as-number (end p) = Err p
 
 abbrev pub as-vote : Seen → Result Vote Place
 as-vote (word w p) = or-bad (vote-of w) p
-as-vote (number n p) = Err p
+as-vote (number w n p) = Err p
 as-vote (end p) = Err p
 
 -- the first field of a row as a number, and as a vote

@@ -26,7 +26,7 @@ use Rattle.schedule.specs.Fields.{then, number-at, vote-at, numbers, past-all}
 abbrev pub as-end : Line → Seen → Result Line Place
 as-end l (end p) = Ok l
 as-end l (word w p) = Err p
-as-end l (number n p) = Err p
+as-end l (number w n p) = Err p
 
 -- the line l, where no field is left
 abbrev pub closed-at : Line → Row → Result Line Place
@@ -100,7 +100,7 @@ form section.Calls p k r = call-form p k r
 
 abbrev pub by-first : Section → Seen → Row → Result Line Place
 by-first s (word w p) r = form s p (keyword-of w) r
-by-first s (number k p) r = Err p
+by-first s (number w k p) r = Err p
 by-first s (end p) r = Err p
 
 -- the line that a row spells in a section

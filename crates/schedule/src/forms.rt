@@ -23,7 +23,7 @@ fn number(reader: &mut Reader) -> Result<u32, Place>
     ensures keeps { λ _. ⌜ later (now (reader .exit)) ≡ later (now (reader .entry)) ⌝ }
 {
     match reader.next() {
-        Token::Number(number, _) => Ok(number),
+        Token::Number(_, number, _) => Ok(number),
         Token::Word(_, place) => Err(place),
         Token::End(place) => Err(place),
     }
@@ -37,7 +37,7 @@ fn vote(reader: &mut Reader) -> Result<Vote, Place>
 {
     match reader.next() {
         Token::Word(bytes, place) => vote_of(bytes).ok_or(place),
-        Token::Number(_, place) => Err(place),
+        Token::Number(_, _, place) => Err(place),
         Token::End(place) => Err(place),
     }
 }
@@ -50,7 +50,7 @@ fn closed(line: Line, reader: &mut Reader) -> Result<Line, Place>
     match reader.next() {
         Token::End(_) => Ok(line),
         Token::Word(_, place) => Err(place),
-        Token::Number(_, place) => Err(place),
+        Token::Number(_, _, place) => Err(place),
     }
 }
 

@@ -39,7 +39,7 @@ fn whole_line(reader: &mut Reader, section: Section) -> Result<Line, Place>
 {
     match reader.next() {
         Token::Word(word, place) => by_word(word, place, reader, section),
-        Token::Number(_, place) => Err(place),
+        Token::Number(_, _, place) => Err(place),
         Token::End(place) => Err(place),
     }
 }

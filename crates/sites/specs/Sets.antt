@@ -1,10 +1,10 @@
 -- Sets of sites as numbers: site s counts 2^s.
 use mathlib.Core.Path.{_≡_}
-use mathlib.Core.Bool.{Bool, true, cond}
+use mathlib.Core.Bool.{Bool, true, cond, _&&_}
 use Prim.Native.Nat.{ℕ, _-_, _/_, _%_, _^_, _<_}
 use lib.Bits.{bitOr}
 use lib.Count.{ones}
-use lib.Dec.{eqb, ltb}
+use lib.Dec.{eqb, leb, ltb}
 
 -- the site s is in the set x
 abbrev pub has : ℕ → ℕ → Bool
@@ -31,6 +31,10 @@ known n x = eqb (x / 2 ^ n) 0
 -- how many of the sixteen sites a set has
 abbrev pub size : ℕ → ℕ
 size x = ones (x % 65536)
+
+-- there are 2 to 16 sites, and the first coordinator f is one of them
+abbrev pub seated : ℕ → ℕ → Bool
+seated n f = leb 2 n && (leb n 16 && ltb f n)
 
 -- two sets share one of the sixteen sites
 abbrev pub Shared : ℕ → ℕ → Type 0

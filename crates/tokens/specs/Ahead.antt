@@ -13,7 +13,7 @@ use Rattle.tokens.specs.Rows.{Row, place-at, row, rows, Seen, word, number, en
 
 abbrev pub seen : Token → Seen
 seen (Word bytes p) = word (now bytes) p
-seen (Number n p) = number n p
+seen (Number bytes n p) = number (now bytes) n p
 seen (End p) = end p
 
 -- the text up to its first newline, and after it

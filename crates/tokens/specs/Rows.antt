@@ -26,12 +26,12 @@ rows n (l ∷ ls) = row (place-at n 1) (fields l) ∷ rows (n + 1) ls
 -- a token, by what it holds
 pub data Seen : Type 0 where
   word : List ℕ → Place → Seen
-  number : ℕ → Place → Seen
+  number : List ℕ → ℕ → Place → Seen
   end : Place → Seen
 
 abbrev pub field-seen : Option ℕ → List ℕ → Place → Seen
 field-seen None f p = word f p
-field-seen (Some n) f p = number n p
+field-seen (Some n) f p = number f n p
 
 abbrev pub first-of : Place → List (List ℕ) → Seen
 first-of p [] = end p

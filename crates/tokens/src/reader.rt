@@ -15,7 +15,7 @@ pub struct Place {
 #[derive(Clone, Copy)]
 pub enum Token<'a> {
     Word(&'a [u8], Place),
-    Number(u32, Place),
+    Number(&'a [u8], u32, Place),
     End(Place),
 }
 

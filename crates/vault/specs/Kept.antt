@@ -1,8 +1,7 @@
 -- What a vault answers and keeps.
 use mathlib.Core.Bool.{cond}
 use mathlib.Core.List.{List}
-use mathlib.Core.Path.{_≡_}
-use Prim.Native.Nat.{ℕ, _+_, _≤_}
+use Prim.Native.Nat.{ℕ}
 use lib.Dec.{ltb}
 use lib.ListN.{getD, set}
 use Rattle.std.specs.declared.result.Result.{Result}
@@ -10,7 +9,7 @@ use Rattle.std.specs.declared.result.Result.the-variants.{Ok, Err}
 use Rattle.sites.specs.declared.refusal.Refusal.{Refusal}
 use Rattle.sites.specs.declared.refusal.Refusal.the-variants as refusal
 use Rattle.rules.specs.Entries.{Entry, plain}
-use Rattle.rules.specs.World.{no-entry, write-price}
+use Rattle.rules.specs.World.{no-entry, write-price, accepted, Left}
 use Rattle.rules.specs.declared.record.Record.{Record}
 
 abbrev pub entry-read : Result Record Refusal → Result Entry Refusal
@@ -31,5 +30,4 @@ entries-written (Err x) s e es = es
 
 -- a write costs its price at most, and a refused one nothing
 abbrev pub Spent : Result (Unit {0}) Refusal → ℕ → ℕ → Type 0
-Spent (Ok u) l l' = (l' ≤ l) × (l ≤ l' + write-price)
-Spent (Err x) l l' = l' ≡ l
+Spent r l l' = Left (accepted r) l l'

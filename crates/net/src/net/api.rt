@@ -5,7 +5,7 @@ ghost use lib.Dec.{ltb};
 ghost use Rattle.std.specs.declared.result.Result.the-variants.{Ok, Err};
 ghost use Rattle.sites.specs.declared.refusal.Refusal.the-variants.{UnknownSite};
 ghost use Rattle.rules.specs.Calls.{answer, after, writes};
-ghost use Rattle.rules.specs.World.{world, row-at, Left};
+ghost use Rattle.rules.specs.World.{world, row-at, role-answer, Left};
 ghost use Rattle.rules.specs.declared.call.Call.the-variants.{Begin, Vote as VoteOn, Deliver, Advance};
 ghost use Rattle.net.specs.Nets.{opened, opening};
 use super::Net;
@@ -14,9 +14,9 @@ use crate::carry::carry;
 use crate::find::find_advance;
 use crate::find::find_begin;
 use crate::find::find_vote;
+use crate::find::role_of;
 use crate::find::row_at;
 use quorum::Policy;
-use rules::call::Call;
 use rules::call::Vote;
 use rules::message::Message;
 use rules::role::Role;
@@ -55,13 +55,6 @@ impl Net {
         self.core.sites
     }
 
-    // How many messages were sent.
-    pub fn sent(&self) -> usize
-        ensures { λ r. ⌜ r ≡ now (self .entry) .core .sent ⌝ }
-    {
-        self.core.sent
-    }
-
     // Is the site up?
     pub fn is_up(&self, site: Site) -> Result<bool, Refusal>
         ensures { λ r. ⌜ r ≡ cond (ltb site (now (self .entry) .core .sites)) (Ok (row-at (now (self .entry) .core) site .up)) (Err UnknownSite) ⌝ }
@@ -74,12 +67,9 @@ impl Net {
 
     // What the site is doing as a coordinator, if it is one.
     pub fn role(&self, site: Site) -> Result<Option<Role>, Refusal>
-        ensures { λ r. ⌜ r ≡ cond (ltb site (now (self .entry) .core .sites)) (Ok (row-at (now (self .entry) .core) site .role)) (Err UnknownSite) ⌝ }
+        ensures { λ r. ⌜ r ≡ role-answer (now (self .entry) .core) site ⌝ }
     {
-        if site >= self.core.sites {
-            return Err(Refusal::UnknownSite);
-        }
-        Ok(row_at(&self.core, site).role)
+        role_of(&self.core, site)
     }
 
     // The first coordinator starts the approval with its own vote.
@@ -160,29 +150,5 @@ impl Net {
     {
         let asked = find_advance(&self.core, policy, vault, list, site);
         carry(&mut self.core, vault, list, asked)
-    }
-
-    // Makes a call, whichever it is.
-    pub fn make<P: Policy, V: Vault>(
-        &mut self,
-        policy: &P,
-        vault: &mut V,
-        list: &mut [Message],
-        call: Call,
-    ) -> Result<(), Refusal>
-        ensures answer { λ r. ⌜ r ≡ answer (P·Policy .commits (now (policy .entry))) (P·Policy .aborts (now (policy .entry))) (P·Policy .sites (now (policy .entry))) (V·Vault .sites (now (vault .entry))) (V·Vault .left (now (vault .entry))) (world (now (self .entry) .core) (V·Vault .entries (now (vault .entry))) (now (list .entry))) call ⌝ }
-        ensures records { λ _. ⌜ V·Vault .entries (now (vault .exit)) ≡ after (P·Policy .commits (now (policy .entry))) (P·Policy .aborts (now (policy .entry))) (P·Policy .sites (now (policy .entry))) (V·Vault .sites (now (vault .entry))) (V·Vault .left (now (vault .entry))) (world (now (self .entry) .core) (V·Vault .entries (now (vault .entry))) (now (list .entry))) call .entries ⌝ }
-        ensures roles { λ _. ⌜ now (self .exit) .core ≡ after (P·Policy .commits (now (policy .entry))) (P·Policy .aborts (now (policy .entry))) (P·Policy .sites (now (policy .entry))) (V·Vault .sites (now (vault .entry))) (V·Vault .left (now (vault .entry))) (world (now (self .entry) .core) (V·Vault .entries (now (vault .entry))) (now (list .entry))) call .net ⌝ }
-        ensures list { λ _. ⌜ now (list .exit) ≡ after (P·Policy .commits (now (policy .entry))) (P·Policy .aborts (now (policy .entry))) (P·Policy .sites (now (policy .entry))) (V·Vault .sites (now (vault .entry))) (V·Vault .left (now (vault .entry))) (world (now (self .entry) .core) (V·Vault .entries (now (vault .entry))) (now (list .entry))) call .messages ⌝ }
-        ensures left { λ _. ⌜ Left (writes (P·Policy .commits (now (policy .entry))) (P·Policy .aborts (now (policy .entry))) (P·Policy .sites (now (policy .entry))) (V·Vault .sites (now (vault .entry))) (V·Vault .left (now (vault .entry))) (world (now (self .entry) .core) (V·Vault .entries (now (vault .entry))) (now (list .entry))) call) (V·Vault .left (now (vault .entry))) (V·Vault .left (now (vault .exit))) ⌝ }
-        ensures sites { λ _. ⌜ V·Vault .sites (now (vault .exit)) ≡ V·Vault .sites (now (vault .entry)) ⌝ }
-        ensures memory { λ _. ⌜ V·Vault .tied (now (vault .entry)) (now (vault .exit)) ⌝ }
-    {
-        match call {
-            Call::Begin(vote) => self.begin(policy, vault, list, vote),
-            Call::Vote(place, vote) => self.vote(policy, vault, list, place, vote),
-            Call::Deliver(place) => self.deliver(policy, vault, list, place),
-            Call::Advance(site) => self.advance(policy, vault, list, site),
-        }
     }
 }

@@ -4,7 +4,7 @@ ghost use Prim.Native.Nat.{ℕ, _≤_};
 ghost use denote.Ref.{now as behind, name};
 ghost use lib.ListN.{length, replicate, drop};
 ghost use Rattle.rules.specs.Entries.{Entry, plain, starting};
-ghost use Rattle.rows.specs.Rows.{row-sites, row-entries, Same-memory, opening, opened-sites, opened-entries, opened-rows, plain-rows};
+ghost use Rattle.rows.specs.Rows.{row-left, row-sites, row-entries, Same-memory, opening, opened-sites, opened-entries, opened-rows, plain-rows};
 ghost use Rattle.rows.specs.Facts.{rows-whole, rows-lawful, memory-alike, memory-chained};
 use super::RowVault;
 use rules::record::Record;
@@ -20,7 +20,7 @@ pub impl Vault for RowVault<'_> as RowVaultVault {
 
     ghost entries = { row-entries };
 
-    ghost left = { λ v. 1000000 };
+    ghost left = { λ v. row-left };
 
     ghost whole = { rows-whole };
 

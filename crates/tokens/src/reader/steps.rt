@@ -87,7 +87,7 @@ impl<'a> Reader<'a> {
         self.passed += 1;
         let bytes = &input[start..end];
         match number_of(bytes) {
-            Some(number) => Token::Number(number, place),
+            Some(number) => Token::Number(bytes, number, place),
             None => Token::Word(bytes, place),
         }
     }
