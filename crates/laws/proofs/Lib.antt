@@ -4,3 +4,6 @@ pub mod Lists
 pub mod Steps
 pub mod Moves
 pub mod Records
+pub mod Apart
+pub mod Leading
+pub mod Runs

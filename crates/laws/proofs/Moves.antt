@@ -26,7 +26,7 @@ pub record Moved (G : Type 0) (s : ℕ) (w w' : World) : Type 0 where
   pub decides : G → (t : ℕ) → Same-if-decided (entry-at w t) (entry-at w' t)
 
 -- a relation that holds of the step and of a record that stays holds at every site
-at-every : (Q : Entry → Entry → Type 0) (es : List Entry) (s : ℕ) (e : Entry) →
+pub at-every : (Q : Entry → Entry → Type 0) (es : List Entry) (s : ℕ) (e : Entry) →
     ((x : Entry) → Q x x) → Q (getD es s no-entry) e → (t : ℕ) → Q (getD es t no-entry) (getD (set es s e) t no-entry)
 at-every Q es s e same step t =
     elim (ℕ-discrete t s) [

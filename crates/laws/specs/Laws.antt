@@ -76,8 +76,8 @@ abbrev pub Role-agrees : Entry → Option Role → Type 0
 Role-agrees e None = Unit {0}
 Role-agrees e (Some r) = Fits-role e r
 
--- a coordinator decides by what was reported to it, and a list that the calls did not write could report two decisions;
--- that no run comes to this is agreement, so here it is a premise on the site that advances
+-- advance writes what its role allows, and in a list that the calls did not write a role could come to allow another
+-- decision than the site's own; in a run of these calls it cannot, and there the law has no premise
 abbrev pub Agreeing : World → Call → Type 0
 Agreeing w (call.Begin v) = Unit {0}
 Agreeing w (call.Vote k v) = Unit {0}

@@ -1,5 +1,6 @@
-// What no call can undo: each law is the contract of a function, and 0 is only a value.
+// Laws over all calls. Each is the contract of a function whose result means nothing.
 ghost use Rattle.laws.specs.Laws.{Refusals-change-nothing, Lists-only-grow, Numbers-never-fall, Entries-stay-lawful, Decided-stays, Only-one-site};
+ghost use Rattle.laws.specs.Runs.{Decided-stays-in-runs};
 
 // A refused call changes nothing.
 pub fn refusals_change_nothing() -> u8
@@ -32,6 +33,13 @@ pub fn entries_stay_lawful() -> u8
 // A decided site never changes its state.
 pub fn decided_stays() -> u8
     ensures { λ _. ⌜ Decided-stays ⌝ }
+{
+    0
+}
+
+// In a run, which starts with a new net, that needs no premise: a decided site never changes its state.
+pub fn decided_stays_in_runs() -> u8
+    ensures { λ _. ⌜ Decided-stays-in-runs ⌝ }
 {
     0
 }

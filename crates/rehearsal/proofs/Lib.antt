@@ -1,3 +1,3 @@
 mod Opening
-mod Playing
+mod Calling
 mod Sites

@@ -39,10 +39,10 @@ call-world b n w (Ok (line.Votes v)) = w
 call-world b n w (Err p) = w
 
 -- the lines of the calls, and then the sites
-abbrev pub played : Ballot → ℕ → World → List Row → List ℕ
-played b n w [] = site-lines n (w .entries)
-played b n w (r ∷ rs) =
-    call-text b n w (r .place .line) (spelled section.Calls r) ++ played b n (call-world b n w (spelled section.Calls r)) rs
+abbrev pub calls-text : Ballot → ℕ → World → List Row → List ℕ
+calls-text b n w [] = site-lines n (w .entries)
+calls-text b n w (r ∷ rs) =
+    call-text b n w (r .place .line) (spelled section.Calls r) ++ calls-text b n (call-world b n w (spelled section.Calls r)) rs
 
 -- a new net of n sites under the first coordinator f, with its vault and its list
 abbrev pub new-world : Core → ℕ → ℕ → World
@@ -50,7 +50,7 @@ new-world c n f = world c (replicate n (starting f)) (replicate 4096 no-message)
 
 -- the line of the policy; a schedule goes on only after one that is accepted
 abbrev pub fixed-text : Result (Unit {0}) Refusal → Ballot → Core → ℕ → ℕ → ℕ → List Row → List ℕ
-fixed-text (Ok u) b c n f k rs = answer-line k (Ok u) ++ played b n (new-world c n f) rs
+fixed-text (Ok u) b c n f k rs = answer-line k (Ok u) ++ calls-text b n (new-world c n f) rs
 fixed-text (Err x) b c n f k rs = answer-line k (Err x)
 
 -- the votes of the sites that a line gives

@@ -1,9 +1,9 @@
 // What `rehearse` prints for a schedule, as a function from bytes to text.
+mod calls;
 mod memory;
-mod play;
-mod stage;
+mod schedules;
 mod text;
 
 pub use memory::OutOfMemory;
 pub use memory::OutOfMemoryDebug;
-pub use stage::rehearse;
+pub use schedules::rehearse;

@@ -4,7 +4,7 @@ use mathlib.Core.List.{List}
 use mathlib.Core.Path.{_≡_}
 use Prim.Native.Nat.{ℕ, _+_, _<_, _≤_}
 use lib.Dec.{eqb, leb, ltb}
-use lib.ListN.{length, getD, set}
+use lib.ListN.{length, getD, set, replicate}
 use Rattle.std.specs.declared.option.Option.{Option}
 use Rattle.std.specs.declared.option.Option.the-variants.{Some, None}
 use Rattle.std.specs.declared.result.Result.{Result}
@@ -38,6 +38,14 @@ no-row = record { up = false; role = None }
 
 abbrev pub no-message : Message
 no-message = message kind.Start 0 0 0
+
+-- a site that is up and has no role
+abbrev pub fresh-row : Row
+fresh-row = record { up = true; role = None }
+
+-- a new net: n sites under the first coordinator f, nothing sent
+abbrev pub fresh : ℕ → ℕ → Core
+fresh n f = record { sites = n; first = f; sent = 0; rows = record { row = replicate 16 fresh-row } }
 
 abbrev pub row-at : Core → ℕ → Row
 row-at c s = getD (c .rows .row) s no-row

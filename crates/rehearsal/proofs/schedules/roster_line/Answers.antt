@@ -3,7 +3,7 @@ use borrow.Author.Needs.{needs}
 use Rattle.std.specs.Of.String.{string-bytes}
 use Rattle.tokens.specs.Ahead.{ahead}
 use Rattle.rehearsal.proofs.Opening.{roster-told}
-use Rattle.rehearsal.proofs.stage.roster_line.Needs as need
+use Rattle.rehearsal.proofs.schedules.roster_line.Needs as need
 
 pub returns-in-Continue-opened : need.returns-in-Continue-opened
 returns-in-Continue-opened c =

@@ -1,7 +1,7 @@
 use Rattle.std.specs.Of.String.{string-bytes}
 use Rattle.tokens.specs.Ahead.{ahead}
 use Rattle.rehearsal.proofs.Opening.{opened-goes-on}
-use Rattle.rehearsal.proofs.stage.opened.Needs as need
+use Rattle.rehearsal.proofs.schedules.opened.Needs as need
 
 pub returns-in-Continue-after-roster : need.returns-in-Continue-after-roster
 returns-in-Continue-after-roster c =

@@ -6,15 +6,15 @@ ghost use lib.ListN.{length, replicate, take};
 ghost use Rattle.std.specs.Of.String.{string-bytes};
 ghost use Rattle.std.specs.Vec.{made};
 ghost use Rattle.std.specs.declared.result.Result.the-variants.{Ok};
-ghost use Rattle.net.specs.Nets.{opening, fresh};
+ghost use Rattle.net.specs.Nets.{opening};
 ghost use Rattle.rules.specs.World.{no-message};
 ghost use Rattle.tokens.specs.Ahead.{ahead};
 ghost use Rattle.votes.specs.Fixing.{fix-answer, fix-ballot};
 ghost use Rattle.votes.specs.Views.{ballot};
-ghost use Rattle.rehearsal.specs.Transcript.{votes-of, new-world, played, votes-text, policy-text, after-roster, opened-text, roster-text, schedule-text, transcript};
+ghost use Rattle.rehearsal.specs.Transcript.{votes-of, new-world, calls-text, votes-text, policy-text, after-roster, opened-text, roster-text, schedule-text, transcript};
+use crate::calls::run_calls;
 use crate::memory::OutOfMemory;
 use crate::memory::OutOfMemoryFromAlloc;
-use crate::play::play;
 use crate::text::answered;
 use crate::text::unreadable;
 use net::net::Net;
@@ -49,8 +49,8 @@ fn fix(policy: &mut Votes, ballots: Ballots) -> Result<(), Refusal>
     policy.fix(ballots.commit, ballots.abort, &ballots.votes[0..count])
 }
 
-// A net is played on its row vault.
-fn perform(
+// Runs the calls on a new row vault.
+fn run_net(
     text: &mut String,
     reader: &mut Reader,
     list: &mut [Message],
@@ -60,11 +60,11 @@ fn perform(
 ) -> Result<(), OutOfMemory>
     requires net { ⌜ Ok (net .core) ≡ opening (net .core .sites) first ⌝ }
     requires list { ⌜ now list ≡ replicate 4096 no-message ⌝ }
-    ensures { λ r. ⌜ made r (λ _. string-bytes (now (text .exit)) ≡ string-bytes (now (text .entry)) ++ played (ballot (now (policy .entry))) (net .core .sites) (new-world (net .core) (net .core .sites) first) (ahead (now (reader .entry)))) ⌝ }
+    ensures { λ r. ⌜ made r (λ _. string-bytes (now (text .exit)) ≡ string-bytes (now (text .entry)) ++ calls-text (ballot (now (policy .entry))) (net .core .sites) (new-world (net .core) (net .core .sites) first) (ahead (now (reader .entry)))) ⌝ }
 {
     let mut rows = [Record::blank(); 16];
     let mut vault = RowVault::new(&mut rows, net.sites(), first);
-    play(text, reader, &mut net, policy, &mut vault, list)?;
+    run_calls(text, reader, &mut net, policy, &mut vault, list)?;
     Ok(())
 }
 
@@ -86,7 +86,7 @@ fn fixed(
     match fix(&mut policy, ballots) {
         Ok(()) => {
             answered(text, number, Ok(()))?;
-            perform(text, reader, list, net, first, &policy)?;
+            run_net(text, reader, list, net, first, &policy)?;
             Ok(())
         }
         Err(refusal) => answered(text, number, Err(refusal)),
@@ -173,8 +173,12 @@ fn roster_line(
     }
 }
 
-// Tells a whole schedule.
-fn stage(text: &mut String, reader: &mut Reader, list: &mut [Message]) -> Result<(), OutOfMemory>
+// Runs a whole schedule.
+fn run_schedule(
+    text: &mut String,
+    reader: &mut Reader,
+    list: &mut [Message],
+) -> Result<(), OutOfMemory>
     requires { ⌜ now list ≡ replicate 4096 no-message ⌝ }
     ensures { λ r. ⌜ made r (λ _. string-bytes (now (text .exit)) ≡ string-bytes (now (text .entry)) ++ schedule-text (ahead (now (reader .entry)))) ⌝ }
 {
@@ -201,6 +205,6 @@ pub fn rehearse(heap: Global, input: &[u8]) -> Result<String, OutOfMemory>
     };
     let mut list = vec![in heap; blank; PLACES]?;
     let mut reader = Reader::new(input);
-    stage(&mut text, &mut reader, list.as_mut_slice())?;
+    run_schedule(&mut text, &mut reader, list.as_mut_slice())?;
     Ok(text)
 }

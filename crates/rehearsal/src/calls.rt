@@ -12,7 +12,7 @@ ghost use Rattle.rules.specs.World.{world};
 ghost use Rattle.tokens.specs.Ahead.{ahead};
 ghost use Rattle.votes.specs.Ballots.{commits-of, aborts-of};
 ghost use Rattle.votes.specs.Views.{ballot};
-ghost use Rattle.rehearsal.specs.Transcript.{call-text, call-world, played};
+ghost use Rattle.rehearsal.specs.Transcript.{call-text, call-world, calls-text};
 ghost use Rattle.rehearsal.specs.Loops.{Falls};
 use crate::memory::OutOfMemory;
 use crate::text::all_sites;
@@ -54,8 +54,8 @@ fn make_call(
     }
 }
 
-// Makes the call of a line, and tells its answer.
-fn play_line(
+// Makes the call of a line, and writes its answer.
+fn call_line(
     text: &mut String,
     reading: Reading,
     net: &mut Net,
@@ -79,8 +79,8 @@ fn play_line(
     }
 }
 
-// Plays the next line of the calls; false where there is none.
-fn play_next(
+// Runs the next line of the calls; false where there is none.
+fn next_call(
     text: &mut String,
     reader: &mut Reader,
     net: &mut Net,
@@ -88,19 +88,19 @@ fn play_next(
     vault: &mut RowVault,
     list: &mut [Message],
 ) -> Result<bool, OutOfMemory>
-    ensures text { λ r. ⌜ made r (λ _. string-bytes (now (text .exit)) ++ played (ballot (now (policy .entry))) (row-sites (now (vault .exit))) (world (now (net .exit) .core) (row-entries (now (vault .exit))) (now (list .exit))) (ahead (now (reader .exit))) ≡ string-bytes (now (text .entry)) ++ played (ballot (now (policy .entry))) (row-sites (now (vault .entry))) (world (now (net .entry) .core) (row-entries (now (vault .entry))) (now (list .entry))) (ahead (now (reader .entry)))) ⌝ }
+    ensures text { λ r. ⌜ made r (λ _. string-bytes (now (text .exit)) ++ calls-text (ballot (now (policy .entry))) (row-sites (now (vault .exit))) (world (now (net .exit) .core) (row-entries (now (vault .exit))) (now (list .exit))) (ahead (now (reader .exit))) ≡ string-bytes (now (text .entry)) ++ calls-text (ballot (now (policy .entry))) (row-sites (now (vault .entry))) (world (now (net .entry) .core) (row-entries (now (vault .entry))) (now (list .entry))) (ahead (now (reader .entry)))) ⌝ }
     ensures reader { λ r. ⌜ made r (λ more. Falls more (ahead (now (reader .entry))) (ahead (now (reader .exit)))) ⌝ }
     ensures sites { λ _. ⌜ row-sites (now (vault .exit)) ≡ row-sites (now (vault .entry)) ⌝ }
 {
     let Some(reading) = read_line(reader, Section::Calls) else {
         return Ok(false);
     };
-    play_line(text, reading, net, policy, vault, list)?;
+    call_line(text, reading, net, policy, vault, list)?;
     Ok(true)
 }
 
-// Plays all lines of the calls, and tells the records of the sites in the end.
-pub(crate) fn play(
+// Runs all lines of the calls, and writes the records of the sites in the end.
+pub(crate) fn run_calls(
     text: &mut String,
     reader: &mut Reader,
     net: &mut Net,
@@ -108,8 +108,8 @@ pub(crate) fn play(
     vault: &mut RowVault,
     list: &mut [Message],
 ) -> Result<(), OutOfMemory>
-    ensures { λ r. ⌜ made r (λ _. string-bytes (now (text .exit)) ≡ string-bytes (now (text .entry)) ++ played (ballot (now (policy .entry))) (row-sites (now (vault .entry))) (world (now (net .entry) .core) (row-entries (now (vault .entry))) (now (list .entry))) (ahead (now (reader .entry)))) ⌝ }
+    ensures { λ r. ⌜ made r (λ _. string-bytes (now (text .exit)) ≡ string-bytes (now (text .entry)) ++ calls-text (ballot (now (policy .entry))) (row-sites (now (vault .entry))) (world (now (net .entry) .core) (row-entries (now (vault .entry))) (now (list .entry))) (ahead (now (reader .entry)))) ⌝ }
 {
-    while play_next(text, reader, net, policy, vault, list)? {}
+    while next_call(text, reader, net, policy, vault, list)? {}
     all_sites(text, vault)
 }

@@ -4,7 +4,7 @@ use native.Mathlib.Omega.{arith}
 use lib.ListN.{take}
 use Rattle.votes.specs.Fixing.{fix-answer, fix-ballot}
 use Rattle.votes.specs.Views.{ballot}
-use Rattle.rehearsal.proofs.stage.fix.Needs as need
+use Rattle.rehearsal.proofs.schedules.fix.Needs as need
 
 pub returns : need.returns
 returns c =
