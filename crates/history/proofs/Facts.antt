@@ -2,7 +2,7 @@
 use Rattle.std.proofs.Common.{◌≡◌, ℕ, ◌<◌, ◌≤◌, true, cond, eqb, ◌⊎◌, List, [], ◌∷◌, sym, refl, subst, inl, inr, arith}
 use native.Mathlib.Decide.{ℕ_discrete}
 use Rattle.sites.specs.Sets.{has}
-use Rattle.rules.specs.Entries.{joined, pre_state}
+use Rattle.rules.specs.Entries.{pre_state}
 use Rattle.rules.specs.declared.state.Outcome.{Outcome}
 use Rattle.rules.specs.declared.state.Outcome.TheVariants as outcome
 use Rattle.rules.specs.declared.state.State.{State}

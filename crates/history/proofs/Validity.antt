@@ -2,7 +2,7 @@
 use Rattle.std.proofs.Common.{◌≡◌, ℕ, zero, suc, ◌<◌, true, List, [], ◌∷◌, sym, refl, subst, inl, inr, arith}
 use native.Mathlib.Decide.{ℕ_discrete}
 use Rattle.rules.specs.Counting.{is_pre_committed}
-use Rattle.rules.specs.Entries.{decided, final_state}
+use Rattle.rules.specs.Entries.{final_state}
 use Rattle.rules.specs.declared.state.Outcome.{Outcome}
 use Rattle.rules.specs.declared.state.Outcome.TheVariants as outcome
 use Rattle.rules.specs.declared.state.State.{State}

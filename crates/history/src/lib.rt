@@ -1,4 +1,6 @@
-// Agreement and validity, over histories of events. Each theorem is the contract of a function whose result means nothing.
+//! Agreement and validity, over histories of events. Each theorem is the contract of a function whose result means nothing.
+#![tactic(auto)]
+
 ghost use Rattle.history.specs.Examples.{QuorumsCross, Commits, Aborts, Late, Refuses};
 ghost use Rattle.history.specs.Facts.{HistoriesHaveFacts};
 ghost use Rattle.history.specs.Promises.{ChosenExcludesAttempts, NoExcludesCommit, Agreement, DecidedIsSettled, DecisionsAgree, Validity, CommittedIsValid};

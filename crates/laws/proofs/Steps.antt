@@ -1,7 +1,6 @@
 -- What each step makes of the record of its site.
 use Rattle.std.proofs.Common.{◌≡◌, ℕ, Bool, true, false, cond, not, ◌&&◌, ◌||◌, ltb, leb, Some, None, Option, sym, refl, ◌∙◌, le_refl, arith}
 use Rattle.std.proofs.lemmas.Bool.{true≢false, or_parts, and_parts, ltb-true}
-use Rattle.sites.specs.Sets.{only}
 use Rattle.sites.specs.declared.refusal.Refusal.TheVariants as refusal
 use Rattle.rules.specs.Counting.{matches, is_initial}
 use Rattle.rules.specs.Entries.{Entry, Lawful, decided, in_state, attempted_in, joined, can_join, join, pre_state, final_state, voted_state}
@@ -11,7 +10,6 @@ use Rattle.rules.specs.declared.call.Vote.TheVariants as vote
 use Rattle.rules.specs.declared.message.Kind.{Kind}
 use Rattle.rules.specs.declared.message.Kind.TheVariants as kind
 use Rattle.rules.specs.declared.message.Message.{Message}
-use Rattle.rules.specs.declared.role.Attempt.{Attempt}
 use Rattle.rules.specs.declared.role.Role.{Role}
 use Rattle.rules.specs.declared.role.Role.TheVariants as role
 use Rattle.rules.specs.declared.role.Ruling.{Ruling}

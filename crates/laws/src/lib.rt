@@ -1,4 +1,6 @@
-// Laws over all calls. Each is the contract of a function whose result means nothing.
+//! Laws over all calls. Each is the contract of a function whose result means nothing.
+#![tactic(auto)]
+
 ghost use Rattle.laws.specs.Laws.{RefusalsChangeNothing, ListsOnlyGrow, NumbersNeverFall, EntriesStayLawful, DecidedStays, OnlyOneSite};
 ghost use Rattle.laws.specs.Runs.{DecidedStaysInRuns};
 

@@ -1,4 +1,6 @@
-// The calls: each finds what its site is to do, checks for room, and does it.
+//! The calls: each finds what its site is to do, checks for room, and does it.
+#![tactic(auto)]
+
 mod calls;
 mod carry;
 mod find;

@@ -1,4 +1,6 @@
-// A number field: at most seven decimal digits, of which the first is 0 only where it is the only one.
+//! A number field: at most seven decimal digits, of which the first is 0 only where it is the only one.
+#![tactic(auto)]
+
 ghost use Rattle.std.specs.Prelude.{◌≡◌, ◌<◌, ◌≤◌, length};
 ghost use Rattle.number.specs.Numbers.{numeral, more_digits, ReadsWritten, ReadsOnlyWritten};
 

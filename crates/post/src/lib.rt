@@ -1,4 +1,6 @@
-// Sending into the caller's message list.
+//! Sending into the caller's message list.
+#![tactic(auto)]
+
 ghost use Rattle.std.specs.Prelude.{◌≡◌, ℕ, ◌+◌, ◌≤◌, length};
 ghost use Rattle.rules.specs.Posting.{broadcast, written, room};
 ghost use Rattle.sites.specs.Sets.{size};

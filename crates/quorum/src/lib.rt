@@ -1,4 +1,6 @@
-// Quorums: which sets of sites may commit an approval and which may abort it.
+//! Quorums: which sets of sites may commit an approval and which may abort it.
+#![tactic(auto)]
+
 ghost use Rattle.std.specs.Prelude.{Bool, true, ◌≡◌, ℕ};
 ghost use Rattle.sites.specs.Sets.{known, Shared};
 

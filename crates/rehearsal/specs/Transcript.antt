@@ -1,8 +1,8 @@
 -- What a schedule prints.
-use Rattle.std.specs.Prelude.{ℕ, min, Bool, cond, List, [], ◌∷◌, ◌++◌, length, take, replicate, Ok, Err, Result, nat_lt}
+use Rattle.std.specs.Prelude.{ℕ, min, cond, List, [], ◌∷◌, ◌++◌, length, take, replicate, Ok, Err, Result, nat_lt}
 use Rattle.sites.specs.declared.refusal.Refusal.{Refusal}
 use Rattle.rules.specs.Calls.{answer, after}
-use Rattle.rules.specs.Entries.{Entry, starting}
+use Rattle.rules.specs.Entries.{starting}
 use Rattle.rules.specs.World.{World, world, no_message}
 use Rattle.rules.specs.declared.rows.Core.{Core}
 use Rattle.votes.specs.Ballots.{Ballot, commits_of, aborts_of, unfixed}

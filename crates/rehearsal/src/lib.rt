@@ -1,4 +1,6 @@
-// What `rehearse` prints for a schedule, as a function from bytes to text.
+//! What `rehearse` prints for a schedule, as a function from bytes to text.
+#![tactic(auto)]
+
 mod calls;
 mod memory;
 mod schedules;

@@ -1,4 +1,6 @@
-// Reads a schedule from standard input and prints what each of its calls did.
+//! Reads a schedule from standard input and prints what each of its calls did.
+#![tactic(auto)]
+
 use anyhow::anyhow;
 use rehearsal::OutOfMemory;
 use std::io::Read;

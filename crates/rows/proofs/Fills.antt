@@ -1,5 +1,5 @@
 -- Filling the first rows with one record.
-use Rattle.std.proofs.Common.{◌≡◌, ℕ, zero, suc, ◌+◌, ◌<◌, ◌≤◌, List, [], ◌∷◌, ◌++◌, map, length, get_or, take, drop, set, replicate, sym, refl, ap, ◌∙◌}
+use Rattle.std.proofs.Common.{◌≡◌, ℕ, zero, suc, ◌+◌, ◌<◌, List, [], ◌∷◌, ◌++◌, length, get_or, take, drop, set, replicate, sym, refl, ap, ◌∙◌}
 use Rattle.std.proofs.lemmas.List.{append_assoc, drop_more, drop-map, length-replicate, map-append, replicate_more, set_at, take_at}
 use Rattle.rules.specs.Entries.{Entry}
 use Rattle.rules.specs.declared.record.Record.{Record}

@@ -1,8 +1,8 @@
 -- A row vault has one lawful record for each site, and keeps its memory.
-use Rattle.std.specs.Prelude.{◌≡◌, ℕ, zero, suc, ◌<◌, ◌≤◌, List, [], ◌∷◌, map, length, take, drop, slice_index_or, refl}
+use Rattle.std.specs.Prelude.{◌≡◌, ℕ, zero, suc, List, [], ◌∷◌, map, length, take, drop, slice_index_or, refl}
 use Rattle.std.proofs.Common.{sym, ap, ◌∙◌, arith, length-take}
 use Rattle.std.proofs.lemmas.List.{length-map}
-use Rattle.rules.specs.Entries.{Entry, Lawful}
+use Rattle.rules.specs.Entries.{Lawful}
 use Rattle.rules.specs.World.{no_entry}
 use Rattle.rules.specs.declared.record.Record.{Record}
 use Rattle.rows.specs.Rows.{plain_row, row_sites, row_entries, SameMemory}

@@ -1,2 +1,4 @@
-// A vault that overwrites: one row of the caller's memory for each site.
+//! A vault that overwrites: one row of the caller's memory for each site.
+#![tactic(auto)]
+
 pub mod rows;

@@ -1,5 +1,5 @@
 -- What each call does, with its refusals in their order. p and n are the numbers of sites of policy and vault.
-use Rattle.std.specs.Prelude.{ℕ, ◌+◌, ◌<◌, ◌≤◌, Bool, true, false, cond, not, ◌&&◌, ◌||◌, List, length, Ok, Err, Result, ◌==◌, nat_le, nat_lt, slice_index_or}
+use Rattle.std.specs.Prelude.{ℕ, Bool, true, false, cond, ◌&&◌, length, Ok, Err, Result, ◌==◌, nat_le, nat_lt, slice_index_or}
 use Rattle.sites.specs.Sets.{everyone}
 use Rattle.sites.specs.declared.refusal.Refusal.{Refusal}
 use Rattle.sites.specs.declared.refusal.Refusal.TheVariants as refusal

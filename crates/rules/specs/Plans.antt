@@ -1,9 +1,9 @@
 -- What one site does at each step: its record, its role, and what it sends.
-use Rattle.std.specs.Prelude.{ℕ, Bool, true, false, cond, not, ◌&&◌, ◌||◌, Some, None, Ok, Err, Option, Result, ◌==◌, nat_le, nat_lt}
+use Rattle.std.specs.Prelude.{ℕ, Bool, false, cond, not, ◌&&◌, ◌||◌, Some, None, Ok, Err, Option, Result, ◌==◌, nat_le, nat_lt}
 use Rattle.sites.specs.Sets.{only, without_site}
 use Rattle.sites.specs.declared.refusal.Refusal.{Refusal}
 use Rattle.sites.specs.declared.refusal.Refusal.TheVariants as refusal
-use Rattle.rules.specs.Counting.{matches, counts, counted_by, is_initial}
+use Rattle.rules.specs.Counting.{matches, counted_by, is_initial}
 use Rattle.rules.specs.Entries.{Entry, in_state, attempted_in, join, decided, pre_state, final_state, voted_state}
 use Rattle.rules.specs.declared.call.Vote.{Vote}
 use Rattle.rules.specs.declared.call.Vote.TheVariants as vote

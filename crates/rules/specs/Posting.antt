@@ -1,5 +1,5 @@
 -- What goes into the message list.
-use Rattle.std.specs.Prelude.{ℕ, zero, suc, ◌+◌, min, Bool, cond, List, [], ◌∷◌, ◌++◌, length, set, nat_le, slice_set}
+use Rattle.std.specs.Prelude.{ℕ, zero, suc, ◌+◌, min, Bool, cond, List, [], ◌∷◌, ◌++◌, length, nat_le, slice_set}
 use Rattle.sites.specs.Sets.{has, size}
 use Rattle.rules.specs.declared.message.Kind.{Kind}
 use Rattle.rules.specs.declared.message.Message.{Message}

@@ -1,4 +1,6 @@
-// What the sites keep and send, and in specs/ the one account of what every call does.
+//! What the sites keep and send, and in specs/ the one account of what every call does.
+#![tactic(auto)]
+
 pub mod call;
 pub mod counting;
 pub mod message;

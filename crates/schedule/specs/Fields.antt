@@ -10,10 +10,6 @@ abbrev pub then : {X Y : Type 0} → Result X Place → (X → Result Y Place) �
 then (Ok x) next = next x
 then (Err p) next = Err p
 
-abbrev pub OnOk : {X : Type 0} → Result X Place → Type 0 → Type 0
-OnOk (Ok x) P = P
-OnOk (Err p) P = Unit {0}
-
 abbrev pub or_bad : {X : Type 0} → Option X → Place → Result X Place
 or_bad (Some x) p = Ok x
 or_bad None p = Err p

@@ -1,6 +1,5 @@
 -- The forms of lines: what a row of fields spells, or the place of its first bad, missing or surplus field.
 use Rattle.std.specs.Prelude.{ℕ, ◌-◌, cond, List, [], ◌∷◌, ◌++◌, replicate, Some, None, Ok, Err, Option, Result, nat_le}
-use Rattle.rules.specs.declared.call.Call.{Call}
 use Rattle.rules.specs.declared.call.Call.TheVariants as call
 use Rattle.tokens.specs.declared.reader.Place.{Place}
 use Rattle.tokens.specs.Rows.{Row, Seen, word, number, end, token, past}

@@ -1,8 +1,8 @@
 // The forms of lines, each from its second field on.
-ghost use Rattle.std.specs.Prelude.{◌≡◌, ◌≤◌};
+ghost use Rattle.std.specs.Prelude.{◌≡◌, ◌≤◌, OnOk};
 ghost use Rattle.tokens.specs.Rows.{past};
 ghost use Rattle.tokens.specs.Ahead.{here, later};
-ghost use Rattle.schedule.specs.Fields.{then, OnOk, number_at, vote_at, numbers, past_all};
+ghost use Rattle.schedule.specs.Fields.{then, number_at, vote_at, numbers, past_all};
 ghost use Rattle.schedule.specs.Lines.{closed_at, padded, roster_line, votes_line, begin_line, vote_line, deliver_line, advance_line};
 
 use crate::line::{Ballots, Line, MOST_SITES, Roster};

@@ -1,4 +1,6 @@
-// The lines of a schedule, read from its text.
+//! The lines of a schedule, read from its text.
+#![tactic(auto)]
+
 mod forms;
 mod line;
 mod read;

@@ -1,5 +1,5 @@
 -- Which sites a set has after each operation, and which sets know only the first sites.
-use Rattle.std.proofs.Common.{◌≡◌, ℕ, zero, suc, ◌+◌, ◌-◌, ◌*◌, ◌/◌, ◌%◌, ◌^◌, ◌<◌, ◌≤◌, max, Bool, true, false, cond, not, ◌&&◌, ◌||◌, eqb, ltb, ◌⊎◌, sym, refl, ap, ◌∙◌, inl, inr, ⊎_elim, suc-mul, pow-suc, arith, pow_mono}
+use Rattle.std.proofs.Common.{◌≡◌, ℕ, zero, suc, ◌+◌, ◌-◌, ◌*◌, ◌/◌, ◌%◌, ◌^◌, ◌<◌, ◌≤◌, max, Bool, true, false, not, ◌&&◌, ◌||◌, eqb, ltb, sym, refl, ap, ◌∙◌, ⊎_elim, suc-mul, pow-suc, arith, pow_mono}
 use native.Mathlib.Nat.{div-eq_of_lt, div_self, zero-div}
 use lib.Bits.{bit_or, or_step, or_shr, or_block, or_zero_r, or_lt, shifted_even}
 use lib.Pow.{ones_split}

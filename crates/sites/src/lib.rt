@@ -1,4 +1,6 @@
-// Sites, sets of sites, and the refusals that every layer answers by.
+//! Sites, sets of sites, and the refusals that every layer answers by.
+#![tactic(auto)]
+
 pub mod laws;
 pub mod refusal;
 pub mod set;

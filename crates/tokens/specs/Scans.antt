@@ -1,5 +1,5 @@
 -- How a reader finds the ends of fields and lines.
-use Rattle.std.specs.Prelude.{◌≡◌, ℕ, ◌≤◌, Bool, true, false, cond, not, List, [], length, drop, Some, None, Option, ◌==◌}
+use Rattle.std.specs.Prelude.{◌≡◌, ℕ, ◌≤◌, Bool, true, false, cond, [], length, drop, Some, None, Option, ◌==◌}
 use Rattle.tokens.specs.declared.reader.Reader.{Reader}
 use Rattle.tokens.specs.Text.{fields}
 use Rattle.tokens.specs.Ahead.{line_left, past_line, unread, text_left}

@@ -1,4 +1,6 @@
-// Schedules with what they print, worked out by hand from the rules.
+//! Schedules with what they print, worked out by hand from the rules.
+#![tactic(auto)]
+
 #[cfg(test)]
 mod approvals;
 #[cfg(test)]

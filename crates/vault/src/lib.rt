@@ -1,4 +1,6 @@
-// Where the records of the sites are kept.
+//! Where the records of the sites are kept.
+#![tactic(auto)]
+
 ghost use Rattle.std.specs.Prelude.{◌≡◌, ℕ, List, length, slice_index_or};
 ghost use Rattle.rules.specs.Entries.{Entry, Lawful, plain};
 ghost use Rattle.rules.specs.World.{no_entry};

@@ -1,6 +1,6 @@
 -- The votes of a set: one site more, never more than all votes; and two sets with more votes than there are share a site.
-use Rattle.std.specs.Prelude.{◌≡◌, ℕ, zero, suc, ◌+◌, ◌*◌, ◌<◌, ◌≤◌, Bool, true, false, cond, ◌&&◌, ◌⊎◌, List, [], ◌∷◌, length, take, sum, nat_le, slice_index, refl}
-use Rattle.std.proofs.Common.{sym, ap, ◌∙◌, ⊎_elim, arith, zero-add, add-one}
+use Rattle.std.specs.Prelude.{◌≡◌, ℕ, zero, suc, ◌+◌, ◌*◌, ◌<◌, ◌≤◌, Bool, true, false, cond, List, [], ◌∷◌, length, take, sum, nat_le, slice_index, refl}
+use Rattle.std.proofs.Common.{◌∙◌, ⊎_elim, arith, zero-add, add-one}
 use Rattle.std.proofs.lemmas.List.Sums.{sum_by-cons}
 use Rattle.std.proofs.lemmas.Bool.{cases_Bool, cond-false, and_parts, and_left, and_right, and_from, leb-true, le-leb, lt-leb}
 use Rattle.sites.specs.Sets.{has}

@@ -13,11 +13,11 @@ loop-receiver-preserved c = search (rules, below_sent, below_kept, written_more,
 pub bounds-list-at : goal.bounds-list-at
 bounds-list-at c = search (rules, room_for, length_written)
 
-pub offset-bounds-list-at : goal.offset-bounds-list-at
-offset-bounds-list-at c = search (rules, room_for, length_written)
+pub offset_bounds-list-at : goal.offset_bounds-list-at
+offset_bounds-list-at c = search (rules, room_for, length_written)
 
-pub overflow-add-at : goal.overflow-add-at
-overflow-add-at c = search (rules, room_for)
+pub overflow_add-at : goal.overflow_add-at
+overflow_add-at c = search (rules, room_for)
 
 pub returns : goal.returns
 returns c =

@@ -12,11 +12,11 @@ returns c =
     let b = ballot c.args.policy.now in
     let n = row_sites c.args.vault.now in
     let w = world c.args.net.now.core (row_entries c.args.vault.now) c.args.list.now in
-    let made = c.call-line.ensures in
-    let w' = world c.call-line.new.net.core (row_entries c.call-line.new.vault) c.call-line.new.list in
+    let made = c.call_line.ensures in
+    let w' = world c.call_line.new.net.core (row_entries c.call_line.new.vault) c.call_line.new.list in
     let e : w' ≡ call_world b n w c.in-Some.reading.line = same_world _ _ _ (call_world b n w c.in-Some.reading.line) made.net made.records made.list in
-    let d = told_line b n w w' (ahead c.args.reader.now) (ahead c.read-line.new.reader) c.in-Some.reading (string_bytes c.args.text.now) (string_bytes c.call-line.new.text) c.in-Some.ensures.told c.read-line.ensures.passes c.in-ok-call-line.ensures.text e in
-    let rest = λ (m : ℕ). string_bytes c.call-line.new.text ++ calls_text b m w' (ahead c.read-line.new.reader) in
+    let d = told_line b n w w' (ahead c.args.reader.now) (ahead c.read_line.new.reader) c.in-Some.reading (string_bytes c.args.text.now) (string_bytes c.call_line.new.text) c.in-Some.ensures.told c.read_line.ensures.passes c.in_ok-call_line.ensures.text e in
+    let rest = λ (m : ℕ). string_bytes c.call_line.new.text ++ calls_text b m w' (ahead c.read_line.new.reader) in
     record {
       text = ap rest made.sites ∙ d.0;
       reader = d.1;

@@ -1,4 +1,4 @@
-use Rattle.std.proofs.Common.{◌≡◌, ap, ◌∙◌, rules}
+use Rattle.std.proofs.Common.{ap, ◌∙◌, rules}
 use lib.Utf8.{encode}
 use Rattle.rehearsal.proofs.Sites.{letter_encoded}
 use Rattle.rehearsal.proofs.text.site_state.Goals as goal

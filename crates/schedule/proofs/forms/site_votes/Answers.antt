@@ -1,14 +1,13 @@
-use Rattle.std.proofs.Common.{◌≡◌, sym, ap, ◌∙◌, arith, length-set}
+use Rattle.std.proofs.Common.{◌∙◌, length-set}
 use Rattle.std.proofs.lemmas.Result.{err_from_is_err_and}
 use Rattle.tokens.specs.Ahead.{here}
-use Rattle.schedule.specs.Fields.{past_all}
-use Rattle.schedule.proofs.Filled.{filled, filled_more, filled-bad, filled_all, filled_padded, past_more, past_whole}
+use Rattle.schedule.proofs.Filled.{filled_more, filled-bad, filled_all, filled_padded, past_more, past_whole}
 use Rattle.schedule.proofs.forms.site_votes.Goals as goal
 
-pub returns-in-err-votes : goal.returns-in-err-votes
-returns-in-err-votes c =
-    let p = err_from_is_err_and c.from-residual.result c.from-residual.ensures.1 in
-    let bad = filled-bad c.args.sites c.loop-site.site c.loop-site-test.true c.loop-site.votes _ _ c.in-err-votes.ensures.told in
+pub returns-in_err-votes : goal.returns-in_err-votes
+returns-in_err-votes c =
+    let p = err_from_is_err_and c.from_residual.result c.from_residual.ensures.1 in
+    let bad = filled-bad c.args.sites c.loop-site.site c.loop-site-test.true c.loop-site.votes _ _ c.in_err-votes.ensures.told in
     rw (p.1, p.2) (record {
       told = bad ∙ c.loop-site.invariant.1 ∙ filled_padded c.args.sites _ c.requires;
       moves = tt;
@@ -24,7 +23,7 @@ loop-site-preserved c =
     let r = here c.loop-site.reader in
     let e = c.number.ensures.moves in (
       length-set _ _ _ ∙ c.loop-site.invariant.0,
-      rw e (filled_more n i l vs r _ c.in-ok-votes.ensures.told ∙ c.loop-site.invariant.1),
+      rw e (filled_more n i l vs r _ c.in_ok-votes.ensures.told ∙ c.loop-site.invariant.1),
       rw e (past_more n i l vs r ∙ c.loop-site.invariant.2),
       c.number.ensures.keeps ∙ c.loop-site.invariant.3,
     )

@@ -16,11 +16,11 @@ low c = has_below 32 c.args.sites c.args.site (div-eq_of_lt (omega arith)) (ther
 bit : (c : goal.Else-not-has) → (1 * 2 ^ c.args.site) % 2 ^ 32 ≡ 2 ^ c.args.site
 bit c = one_shl c.args.site 32 (low c)
 
-pub overflow-shl-result : goal.overflow-shl-result
-overflow-shl-result c = low c
+pub overflow_shl-result : goal.overflow_shl-result
+overflow_shl-result c = low c
 
-pub overflow-sub-result : goal.overflow-sub-result
-overflow-sub-result c = omega (arith, bit c, has_counts c.args.sites c.args.site (there c))
+pub overflow_sub-result : goal.overflow_sub-result
+overflow_sub-result c = omega (arith, bit c, has_counts c.args.sites c.args.site (there c))
 
 pub returns : goal.returns
 returns c =

@@ -3,8 +3,8 @@ use Rattle.std.proofs.lemmas.List.Sums.{sum_by_more, sum_by-take-le}
 use Rattle.votes.specs.Weights.{weight_more, weight_le}
 use Rattle.votes.proofs.judging.weight.Goals as goal
 
-pub overflow-add-all : goal.overflow-add-all
-overflow-add-all c =
+pub overflow_add-all : goal.overflow_add-all
+overflow_add-all c =
     let vs = c.args.votes.now in
     let i = c.loop-i.i in
     omega

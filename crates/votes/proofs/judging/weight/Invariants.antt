@@ -1,4 +1,4 @@
-use Rattle.std.proofs.Common.{◌≡◌, ◌≤◌, take}
+use Rattle.std.proofs.Common.{◌≡◌, take}
 use Rattle.votes.specs.Ballots.{weight_from}
 use Rattle.votes.proofs.judging.weight.Given as goal
 

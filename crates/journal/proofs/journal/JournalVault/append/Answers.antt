@@ -3,8 +3,8 @@ use lib.Seq.{take-set-le}
 use Rattle.journal.proofs.Replay.{slots_push, newest_push, in_order_set}
 use Rattle.journal.proofs.journal.JournalVault.append.Goals as goal
 
-pub invariant-of-self : goal.invariant-of-self
-invariant-of-self c = search (rules, length-set, in_order_set)
+pub invariant_of-self : goal.invariant_of-self
+invariant_of-self c = search (rules, length-set, in_order_set)
 
 pub returns : goal.returns
 returns c = search (rules, length-set, slots_push, newest_push, take-set-le, drop-set-lt)

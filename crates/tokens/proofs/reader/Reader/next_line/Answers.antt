@@ -6,10 +6,10 @@ pub returns-then-end-input : goal.returns-then-end-input
 unfolding later ahead
 returns-then-end-input c =
     let r = c.args.self.now in
-    line-left-behind r.input.now r.at r.line c.line-end-end.result c.line-end-end.ensures.is
+    line-left-behind r.input.now r.at r.line c.line_end-end.result c.line_end-end.ensures.is
 
 pub returns-else-end-input : goal.returns-else-end-input
 unfolding later ahead
 returns-else-end-input c =
     let r = c.args.self.now in
-    last_line r.input.now r.at r.line c.line-end-end.result c.line-end-end.ensures.is c.if-end-input.false
+    last_line r.input.now r.at r.line c.line_end-end.result c.line_end-end.ensures.is c.if-end-input.false

@@ -1,8 +1,8 @@
 use Rattle.std.proofs.Common.{sum, ap, arith}
 use Rattle.votes.proofs.ballot.Votes.fix.Goals as goal
 
-pub invariant-of-self : goal.invariant-of-self
-invariant-of-self c =
-    let f = c.in-ok-examine.ensures.fixable in
+pub invariant_of-self : goal.invariant_of-self
+invariant_of-self c =
+    let f = c.in_ok-examine.ensures.fixable in
     let same = ap sum c.placed.ensures in
-    (omega arith, (omega arith, (omega arith, tt)))
+    record { few = omega arith; light = omega arith; crossing = omega arith }
