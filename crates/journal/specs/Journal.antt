@@ -2,13 +2,18 @@
 use Rattle.std.specs.Prelude.{◌≡◌, ℕ, ◌-◌, ◌≤◌, List, [], ◌∷◌, ◌++◌, length, take, drop, Ok, Err, Result}
 use Rattle.sites.specs.declared.refusal.Refusal.{Refusal}
 use Rattle.rules.specs.Entries.{Entry, starting}
-use Rattle.rules.specs.World.{Stored}
 use Rattle.journal.specs.Slots.{Written, written, plain_slots, written_each, counting_slots, newest}
 use Rattle.journal.specs.declared.journal.JournalVault.{JournalVault}
 
 -- the used slots, the oldest first
 abbrev pub used_slots : JournalVault → List Written
 used_slots v = take v.used (plain_slots v.slots.now)
+
+-- what a vault holds: the number of sites, their records, and how many writes are left at least
+pub record Stored : Type 0 where
+  pub sites : ℕ
+  pub entries : List Entry
+  pub left : ℕ
 
 -- the newest record of each site, and the slots that are not used
 abbrev pub journal_stored : JournalVault → Stored

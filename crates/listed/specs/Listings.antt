@@ -1,7 +1,6 @@
 -- A listing: the sites, and the sets that make a quorum of each kind.
 use Rattle.std.specs.Prelude.{ℕ, Bool, not, ◌&&◌, List, [], ◌==◌}
 use Rattle.sites.specs.Sets.{includes, known}
-use Rattle.quorum.specs.Quorums.{Quorums}
 use Rattle.listed.specs.Crossing.{some}
 
 pub record Listing : Type 0 where
@@ -12,6 +11,12 @@ pub record Listing : Type 0 where
 -- a set without unknown site that includes a listed set
 abbrev pub listed_quorum : ℕ → List ℕ → ℕ → Bool
 listed_quorum n ys x = known n x && some (includes x) ys
+
+-- what a policy means: its number of sites, and its two families of sets
+pub record Quorums : Type 0 where
+  pub sites : ℕ
+  pub commits : ℕ → Bool
+  pub aborts : ℕ → Bool
 
 -- what the listing means as a policy
 abbrev pub quorums_of : Listing → Quorums

@@ -34,7 +34,11 @@ fn is_quorum(sites: u32, sets: &[SiteSet], group: SiteSet) -> bool
 }
 
 impl Policy for Listed {
-    ghost quorums = { λ p. quorums_of (listing p) };
+    ghost sites = { λ p. (quorums_of (listing p)).sites };
+
+    ghost commits = { λ p. (quorums_of (listing p)).commits };
+
+    ghost aborts = { λ p. (quorums_of (listing p)).aborts };
 
     ghost crossing = { λ p x y c a.
         let commit = take p.commits p.commit in

@@ -25,7 +25,11 @@ fn counting(slots: usize) -> usize
 }
 
 impl Vault for JournalVault<'_> {
-    ghost stored = { journal_stored };
+    ghost sites = { λ v. (journal_stored v).sites };
+
+    ghost entries = { λ v. (journal_stored v).entries };
+
+    ghost left = { λ v. (journal_stored v).left };
 
     ghost whole = { journal_whole };
 
@@ -54,7 +58,7 @@ impl Vault for JournalVault<'_> {
 
     // Besides what every vault promises: a write that is not refused takes the next slot.
     fn write(&mut self, site: Site, own: Record) -> Result<(), Refusal>
-        ensures answer { result ≡ write_answer (journal_stored self.old) site }
+        ensures answer { result ≡ write_answer (journal_stored self.old).sites (journal_stored self.old).left site }
         ensures sites { (journal_stored self.new).sites ≡ (journal_stored self.old).sites }
         ensures entries { (journal_stored self.new).entries ≡ entries_written result site (plain own) (journal_stored self.old).entries }
         ensures left { Spent result (journal_stored self.old).left (journal_stored self.new).left }
