@@ -3,8 +3,8 @@
 
 usage: python3 tools/respell.py [--list]      at the top of the repository, after the kit's own respelling
 
-It reads every .antt file below crates/ for the names that are defined there, fields and constructors too, and renames those with a dash wherever they
-stand: in specs/ and proofs/, and in the clauses of .rt files. Comments and strings stay, and so do the names that the
+It reads every .antt file below crates/ for the names that are defined there, in sections, fields and constructors too,
+and renames those with a dash wherever they stand: in specs/ and proofs/, and in the clauses of .rt files. Comments and strings stay, and so do the names that the
 checker makes (goals, invariants, measures: what a file named Answers, Invariants, Choices or Proof answers). It refuses to
 write where two names would fall together. --list prints the names, old and new, and writes nothing.
 """
@@ -34,6 +34,7 @@ def new_name(name):
 
 
 MEMBER = re.compile(r"^  (?:pub )?([A-Za-z][\w'\-]*) : ")
+INNER = re.compile(r"^  (?:pub )?([a-z][\w']*(?:-[\w']+)+) : ")
 
 
 def defined(path):
@@ -44,6 +45,8 @@ def defined(path):
         found = MEMBER.match(line)
         if inside and found:
             yield found.group(1)
+        elif INNER.match(line) and not GENERATED.search(path):
+            yield INNER.match(line).group(1)
         if line[:1] in " \n" or line.startswith(("--", "use ", "mod ", "pub mod ", "unfolding ")):
             continue
         found = HEAD.match(line)

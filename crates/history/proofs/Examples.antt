@@ -8,7 +8,7 @@ use Rattle.rules.specs.declared.state.State.TheVariants as state
 use Rattle.history.specs.Events.{Event, Voted, Joined, Attempted, Acknowledged, ◌∈◌}
 use Rattle.history.specs.Histories.{TookPart, AllVoted, Basis, Chosen, Good}
 use Rattle.history.specs.Examples.{three_sites, voting, attempting, acknowledging, canvassing, outage, canvassing_again, acknowledging_again, recovering, recovered, Late, QuorumsCross, Commits, Aborts, Refuses}
-use Rattle.history.proofs.Facts.{basis-more}
+use Rattle.history.proofs.Facts.{basis_more}
 use Rattle.history.proofs.Sets.{of_three, pairs_cross}
 
 pub quorums_cross : QuorumsCross
@@ -116,10 +116,10 @@ third_basis = record {
 -- the four events since then do not matter
 basis_later : Basis three_sites recovered 2 1 Abort
 basis_later =
-    basis-more three_sites (Acknowledged 2 3 0 Commit)
-    (basis-more three_sites (Attempted 3 0 Commit)
-    (basis-more three_sites (Joined 2 3 0 state.Waiting 0)
-    (basis-more three_sites (Joined 0 3 0 state.PreCommitted 1) first_basis)))
+    basis_more three_sites (Acknowledged 2 3 0 Commit)
+    (basis_more three_sites (Attempted 3 0 Commit)
+    (basis_more three_sites (Joined 2 3 0 state.Waiting 0)
+    (basis_more three_sites (Joined 0 3 0 state.PreCommitted 1) first_basis)))
 
 recovered_good : Good three_sites recovered
 recovered_good = (

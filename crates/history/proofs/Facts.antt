@@ -36,22 +36,22 @@ module _ (p : Setting) where
   within (x ∷ h) s g = let ih = within h s g.1 in grind arith
 
   -- the number does not fall
-  pub joined-reached : (h : List Event) (s n r : ℕ) (t : State) (a : ℕ) → Good p h → Joined s n r t a ∈ h → n ≤ (standing p h s).elected
-  joined-reached [] s n r t a g m = absurd m
-  joined-reached (x ∷ h) s n r t a g m = let ih = joined-reached h s n r t a g.1 in grind arith
+  pub joined_reached : (h : List Event) (s n r : ℕ) (t : State) (a : ℕ) → Good p h → Joined s n r t a ∈ h → n ≤ (standing p h s).elected
+  joined_reached [] s n r t a g m = absurd m
+  joined_reached (x ∷ h) s n r t a g m = let ih = joined_reached h s n r t a g.1 in grind arith
 
   one_lead : (h : List Event) (s n r r' : ℕ) (t t' : State) (a a' : ℕ) → Good p h → Joined s n r t a ∈ h → Joined s n r' t' a' ∈ h → r ≡ r'
   one_lead [] s n r r' t t' a a' g m m' = absurd m
   one_lead (x ∷ h) s n r r' t t' a a' g m m' =
       let ih = one_lead h s n r r' t t' a a' g.1 in
-      let b = joined-reached h s n r t a g.1 in
-      let b' = joined-reached h s n r' t' a' g.1 in
+      let b = joined_reached h s n r t a g.1 in
+      let b' = joined_reached h s n r' t' a' g.1 in
       grind arith
 
   -- nor does the last attempt
-  pub part-reached : (h : List Event) (s n r : ℕ) (o : Outcome) → Good p h → TookPart h s n r o → n ≤ (standing p h s).attempt
-  part-reached [] s n r o g m = grind arith
-  part-reached (x ∷ h) s n r o g m = let ih = part-reached h s n r o g.1 in let b = within h s g.1 in grind arith
+  pub part_reached : (h : List Event) (s n r : ℕ) (o : Outcome) → Good p h → TookPart h s n r o → n ≤ (standing p h s).attempt
+  part_reached [] s n r o g m = grind arith
+  part_reached (x ∷ h) s n r o g m = let ih = part_reached h s n r o g.1 in let b = within h s g.1 in grind arith
 
   joined_above : (h : List Event) (s n r : ℕ) (t : State) (a : ℕ) → Good p h → Joined s n r t a ∈ h → 2 ≤ n
   joined_above [] s n r t a g m = absurd m
@@ -61,15 +61,15 @@ module _ (p : Setting) where
   report_below [] s n r t a g m = absurd m
   report_below (x ∷ h) s n r t a g m = let ih = report_below h s n r t a g.1 in let b = within h s g.1 in grind arith
 
-  pub attempt-reached : (h : List Event) (n r : ℕ) (o : Outcome) → Good p h → Attempted n r o ∈ h → n ≤ (standing p h r).attempt
-  attempt-reached h n r o g m = part-reached h r n r o g (inr (refl, m))
+  pub attempt_reached : (h : List Event) (n r : ℕ) (o : Outcome) → Good p h → Attempted n r o ∈ h → n ≤ (standing p h r).attempt
+  attempt_reached h n r o g m = part_reached h r n r o g (inr (refl, m))
 
   one_outcome : (h : List Event) (n r : ℕ) (o o' : Outcome) → Good p h → Attempted n r o ∈ h → Attempted n r o' ∈ h → o ≡ o'
   one_outcome [] n r o o' g m m' = absurd m
   one_outcome (x ∷ h) n r o o' g m m' =
       let ih = one_outcome h n r o o' g.1 in
-      let b = attempt-reached h n r o g.1 in
-      let b' = attempt-reached h n r o' g.1 in
+      let b = attempt_reached h n r o g.1 in
+      let b' = attempt_reached h n r o' g.1 in
       grind arith
 
   attempt_above : (h : List Event) (n r : ℕ) (o : Outcome) → Good p h → Attempted n r o ∈ h → 1 ≤ n
@@ -84,8 +84,8 @@ module _ (p : Setting) where
   part_reported [] s n r o m r' t a g k j l = absurd j
   part_reported (x ∷ h) s n r o m r' t a g k j l =
       let ih = part_reported h s n r o m r' t a g.1 in
-      let b = joined-reached h s m r' t a g.1 in
-      let b' = part-reached h s n r o g.1 in
+      let b = joined_reached h s m r' t a g.1 in
+      let b' = part_reached h s n r o g.1 in
       grind arith
 
   -- a pre-committed or pre-aborted site took part in an attempt at its last attempt number
@@ -114,40 +114,40 @@ module _ (p : Setting) where
       grind arith
 
   -- a site at a number above 1 has joined it
-  has-joined : (h : List Event) (s n r : ℕ) → Under p h s n r → 2 ≤ n → HasJoined h s n r
-  has-joined [] s n r u l = absurd (omega arith)
-  has-joined (Joined t m q v a ∷ h) s n r u l =
+  has_joined : (h : List Event) (s n r : ℕ) → Under p h s n r → 2 ≤ n → HasJoined h s n r
+  has_joined [] s n r u l = absurd (omega arith)
+  has_joined (Joined t m q v a ∷ h) s n r u l =
       elim (ℕ_discrete s t) [
         | yes e ↦ record { reported = v; attempt = a; event = grind arith }
-        | no d ↦ joined_more (has-joined h s n r (grind arith) l)
+        | no d ↦ joined_more (has_joined h s n r (grind arith) l)
       ]
-  has-joined (Voted t ∷ h) s n r u l = joined_more (has-joined h s n r (grind arith) l)
-  has-joined (Refused t ∷ h) s n r u l = joined_more (has-joined h s n r (grind arith) l)
-  has-joined (Attempted m q o ∷ h) s n r u l = joined_more (has-joined h s n r (grind arith) l)
-  has-joined (Acknowledged t m q o ∷ h) s n r u l = joined_more (has-joined h s n r (grind arith) l)
-  has-joined (Decided m q o ∷ h) s n r u l = joined_more (has-joined h s n r (grind arith) l)
-  has-joined (Followed t m q o ∷ h) s n r u l = joined_more (has-joined h s n r (grind arith) l)
+  has_joined (Voted t ∷ h) s n r u l = joined_more (has_joined h s n r (grind arith) l)
+  has_joined (Refused t ∷ h) s n r u l = joined_more (has_joined h s n r (grind arith) l)
+  has_joined (Attempted m q o ∷ h) s n r u l = joined_more (has_joined h s n r (grind arith) l)
+  has_joined (Acknowledged t m q o ∷ h) s n r u l = joined_more (has_joined h s n r (grind arith) l)
+  has_joined (Decided m q o ∷ h) s n r u l = joined_more (has_joined h s n r (grind arith) l)
+  has_joined (Followed t m q o ∷ h) s n r u l = joined_more (has_joined h s n r (grind arith) l)
 
-  attempt-joined : (h : List Event) (n r : ℕ) (o : Outcome) → Good p h → Attempted n r o ∈ h → 2 ≤ n → HasJoined h r n r
-  attempt-joined [] n r o g m l = absurd m
-  attempt-joined (x ∷ h) n r o g (inl e) l =
+  attempt_joined : (h : List Event) (n r : ℕ) (o : Outcome) → Good p h → Attempted n r o ∈ h → 2 ≤ n → HasJoined h r n r
+  attempt_joined [] n r o g m l = absurd m
+  attempt_joined (x ∷ h) n r o g (inl e) l =
       let y : May p h (Attempted n r o) = subst (May p h) (sym e) g.0 in
-      joined_more (has-joined h r n r y.0 l)
-  attempt-joined (x ∷ h) n r o g (inr m) l = joined_more (attempt-joined h n r o g.1 m l)
+      joined_more (has_joined h r n r y.0 l)
+  attempt_joined (x ∷ h) n r o g (inr m) l = joined_more (attempt_joined h n r o g.1 m l)
 
-  ack-joined : (h : List Event) (s n r : ℕ) (o : Outcome) → Good p h → Acknowledged s n r o ∈ h → 2 ≤ n → HasJoined h s n r
-  ack-joined [] s n r o g m l = absurd m
-  ack-joined (x ∷ h) s n r o g (inl e) l =
+  ack_joined : (h : List Event) (s n r : ℕ) (o : Outcome) → Good p h → Acknowledged s n r o ∈ h → 2 ≤ n → HasJoined h s n r
+  ack_joined [] s n r o g m l = absurd m
+  ack_joined (x ∷ h) s n r o g (inl e) l =
       let y : May p h (Acknowledged s n r o) = subst (May p h) (sym e) g.0 in
-      joined_more (has-joined h s n r y.0 l)
-  ack-joined (x ∷ h) s n r o g (inr m) l = joined_more (ack-joined h s n r o g.1 m l)
+      joined_more (has_joined h s n r y.0 l)
+  ack_joined (x ∷ h) s n r o g (inr m) l = joined_more (ack_joined h s n r o g.1 m l)
 
   part_joined : (h : List Event) (s n r : ℕ) (o : Outcome) → Good p h → TookPart h s n r o → 2 ≤ n → HasJoined h s n r
-  part_joined h s n r o g (inl m) l = ack-joined h s n r o g m l
-  part_joined h s n r o g (inr m) l = rw m.0 (attempt-joined h n r o g m.1 l)
+  part_joined h s n r o g (inl m) l = ack_joined h s n r o g m l
+  part_joined h s n r o g (inr m) l = rw m.0 (attempt_joined h n r o g m.1 l)
 
-  pub basis-more : {h : List Event} {n r : ℕ} {o : Outcome} (x : Event) → Basis p h n r o → Basis p (x ∷ h) n r o
-  basis-more x b = let w = b.speaker in record {
+  pub basis_more : {h : List Event} {n r : ℕ} {o : Outcome} (x : Event) → Basis p h n r o → Basis p (x ∷ h) n r o
+  basis_more x b = let w = b.speaker in record {
     sites = b.sites;
     greatest = b.greatest;
     enough = b.enough;
@@ -159,8 +159,8 @@ module _ (p : Setting) where
   later_attempt [] n r o g m l = absurd m
   later_attempt (x ∷ h) n r o g (inl e) l =
       let y : May p h (Attempted n r o) = subst (May p h) (sym e) g.0 in
-      elim y.2 [ inl f ↦ absurd (omega (arith, f.number)) | inr b ↦ basis-more x b ]
-  later_attempt (x ∷ h) n r o g (inr m) l = basis-more x (later_attempt h n r o g.1 m l)
+      elim y.2 [ inl f ↦ absurd (omega (arith, f.number)) | inr b ↦ basis_more x b ]
+  later_attempt (x ∷ h) n r o g (inr m) l = basis_more x (later_attempt h n r o g.1 m l)
 
   first_attempt : (h : List Event) (r : ℕ) (o : Outcome) → Good p h → Attempted 1 r o ∈ h → (o ≡ outcome.Commit) × AllVoted p h
   first_attempt [] r o g m = absurd m
@@ -173,22 +173,22 @@ module _ (p : Setting) where
   first_attempt (x ∷ h) r o g (inr m) = let k = first_attempt h r o g.1 m in (k.0, λ s i. inr (k.1 s i))
 
   -- a site that voted is not initial any more
-  past-vote : (h : List Event) (s : ℕ) → Good p h → (Voted s ∈ h) ⊎ (Refused s ∈ h) → (standing p h s).state ≡ state.Initial → ⊥
-  past-vote [] s g m e = grind arith
-  past-vote (x ∷ h) s g m e = let ih = past-vote h s g.1 in grind arith
+  past_vote : (h : List Event) (s : ℕ) → Good p h → (Voted s ∈ h) ⊎ (Refused s ∈ h) → (standing p h s).state ≡ state.Initial → ⊥
+  past_vote [] s g m e = grind arith
+  past_vote (x ∷ h) s g m e = let ih = past_vote h s g.1 in grind arith
 
   one_vote : (h : List Event) (s : ℕ) → Good p h → Voted s ∈ h → Refused s ∈ h → ⊥
   one_vote [] s g m m' = m
-  one_vote (x ∷ h) s g m m' = let ih = one_vote h s g.1 in let v = past-vote h s g.1 in grind arith
+  one_vote (x ∷ h) s g m m' = let ih = one_vote h s g.1 in let v = past_vote h s g.1 in grind arith
 
   refuser : (h : List Event) (s : ℕ) → Good p h → Refused s ∈ h → has p.voters s ≡ true
   refuser [] s g m = absurd m
   refuser (x ∷ h) s g m = let ih = refuser h s g.1 in grind arith
 
   -- at the number 1 a site is under the first coordinator
-  pub first-lead : (h : List Event) (s : ℕ) → Good p h → (standing p h s).elected ≡ 1 → (standing p h s).lead ≡ p.first
-  first-lead [] s g e = refl
-  first-lead (x ∷ h) s g e = let ih = first-lead h s g.1 in let b = numbered h s g.1 in grind arith
+  pub first_lead : (h : List Event) (s : ℕ) → Good p h → (standing p h s).elected ≡ 1 → (standing p h s).lead ≡ p.first
+  first_lead [] s g e = refl
+  first_lead (x ∷ h) s g e = let ih = first_lead h s g.1 in let b = numbered h s g.1 in grind arith
 
 pub histories_have_facts : HistoriesHaveFacts
 histories_have_facts p h g = record {

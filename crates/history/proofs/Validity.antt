@@ -70,35 +70,35 @@ module _ (p : Setting) (h : List Event) (R : Resting p h) where
   before : (e : Event) (s : ℕ) (o : Outcome) → (standing p h s).state ≡ final_state o → Settled p (e ∷ h) o
   before e s o x = settled_more p h e o (R.stood s o x)
 
-  stood-more : (e : Event) → May p h e → (s : ℕ) (o : Outcome) → (standing p (e ∷ h) s).state ≡ final_state o → Settled p (e ∷ h) o
-  stood-more (Voted t) m s o x = elim (ℕ_discrete s t) [ yes y ↦ absurd (grind arith) | no d ↦ before (Voted t) s o (grind arith) ]
-  stood-more (Refused t) m s o x =
+  stood_more : (e : Event) → May p h e → (s : ℕ) (o : Outcome) → (standing p (e ∷ h) s).state ≡ final_state o → Settled p (e ∷ h) o
+  stood_more (Voted t) m s o x = elim (ℕ_discrete s t) [ yes y ↦ absurd (grind arith) | no d ↦ before (Voted t) s o (grind arith) ]
+  stood_more (Refused t) m s o x =
       elim (ℕ_discrete s t) [ yes y ↦ inr (grind arith, (t, inl refl)) | no d ↦ before (Refused t) s o (grind arith) ]
-  stood-more (Joined t n r v a) m s o x = before (Joined t n r v a) s o (grind arith)
-  stood-more (Attempted n r o') m s o x =
+  stood_more (Joined t n r v a) m s o x = before (Joined t n r v a) s o (grind arith)
+  stood_more (Attempted n r o') m s o x =
       elim (ℕ_discrete s r) [ yes y ↦ absurd (grind arith) | no d ↦ before (Attempted n r o') s o (grind arith) ]
-  stood-more (Acknowledged t n r o') m s o x =
+  stood_more (Acknowledged t n r o') m s o x =
       elim (ℕ_discrete s t) [ yes y ↦ absurd (grind arith) | no d ↦ before (Acknowledged t n r o') s o (grind arith) ]
-  stood-more (Decided n r o') m s o x =
+  stood_more (Decided n r o') m s o x =
       elim (ℕ_discrete s r) [
         | yes y ↦ subst (Settled p (Decided n r o' ∷ h)) (same_final o' o (grind arith)) (settled_more p h (Decided n r o') o' (grounds n r o' m))
         | no d ↦ before (Decided n r o') s o (grind arith)
       ]
-  stood-more (Followed t n r o') m s o x =
+  stood_more (Followed t n r o') m s o x =
       elim (ℕ_discrete s t) [
         | yes y ↦ subst (Settled p (Followed t n r o' ∷ h)) (same_final o' o (grind arith)) (settled_more p h (Followed t n r o') o' (R.ruled n r o' m.2))
         | no d ↦ before (Followed t n r o') s o (grind arith)
       ]
 
-  reported-more : (e : Event) → May p h e → (s n r : ℕ) (o : Outcome) (a : ℕ) → Joined s n r (final_state o) a ∈ (e ∷ h) → Settled p (e ∷ h) o
-  reported-more e m s n r o a (inl x) =
+  reported_more : (e : Event) → May p h e → (s n r : ℕ) (o : Outcome) (a : ℕ) → Joined s n r (final_state o) a ∈ (e ∷ h) → Settled p (e ∷ h) o
+  reported_more e m s n r o a (inl x) =
       let y : May p h (Joined s n r (final_state o) a) = subst (May p h) (sym x) m in
       before e s o (sym y.1)
-  reported-more e m s n r o a (inr x) = settled_more p h e o (R.reported s n r o a x)
+  reported_more e m s n r o a (inr x) = settled_more p h e o (R.reported s n r o a x)
 
-  ruled-more : (e : Event) → May p h e → (n r : ℕ) (o : Outcome) → Decided n r o ∈ (e ∷ h) → Settled p (e ∷ h) o
-  ruled-more e m n r o (inl x) = settled_more p h e o (grounds n r o (subst (May p h) (sym x) m))
-  ruled-more e m n r o (inr x) = settled_more p h e o (R.ruled n r o x)
+  ruled_more : (e : Event) → May p h e → (n r : ℕ) (o : Outcome) → Decided n r o ∈ (e ∷ h) → Settled p (e ∷ h) o
+  ruled_more e m n r o (inl x) = settled_more p h e o (grounds n r o (subst (May p h) (sym x) m))
+  ruled_more e m n r o (inr x) = settled_more p h e o (R.ruled n r o x)
 
 resting : (p : Setting) (h : List Event) → Good p h → Resting p h
 resting p [] g = record {
@@ -107,9 +107,9 @@ resting p [] g = record {
   ruled = λ n r o x. absurd x;
 }
 resting p (e ∷ h) g = let R = resting p h g.1 in record {
-  stood = stood-more p h R e g.0;
-  reported = reported-more p h R e g.0;
-  ruled = ruled-more p h R e g.0;
+  stood = stood_more p h R e g.0;
+  reported = reported_more p h R e g.0;
+  ruled = ruled_more p h R e g.0;
 }
 
 pub decided_is_settled : DecidedIsSettled

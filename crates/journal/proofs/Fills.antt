@@ -32,26 +32,26 @@ module _ (n : ℕ) (r : Record) (xs ys : List Slot) (within : n ≤ length xs) (
   long : length (slots_of n r) ≡ n
   long = length-map-range_with_len (λ s. record { site = s; own = r }) 0 n
 
-  pub filled-length : length ys ≡ length xs
-  filled-length = ap length filled ∙ omega (arith, length-append (slots_of n r) (drop n xs), length-drop n xs, long)
+  pub filled_length : length ys ≡ length xs
+  filled_length = ap length filled ∙ omega (arith, length-append (slots_of n r) (drop n xs), length-drop n xs, long)
 
-  first-slots : take n ys ≡ slots_of n r
-  first-slots = ap (take n) filled ∙ take_at (slots_of n r) (drop n xs) n long
+  first_slots : take n ys ≡ slots_of n r
+  first_slots = ap (take n) filled ∙ take_at (slots_of n r) (drop n xs) n long
 
   -- the first ones are in the order of the sites
-  pub filled-order : InOrder n ys
-  filled-order = ap (map site_of) first-slots ∙ map_sites 0 n r
+  pub filled_order : InOrder n ys
+  filled_order = ap (map site_of) first_slots ∙ map_sites 0 n r
 
   -- by their plain parts
-  pub filled-slots : plain_slots ys ≡ written_each n (plain r) ++ drop n (plain_slots xs)
-  filled-slots =
+  pub filled_slots : plain_slots ys ≡ written_each n (plain r) ++ drop n (plain_slots xs)
+  filled_slots =
       ap plain_slots filled ∙ map-append plain_slot (slots_of n r) (drop n xs)
       ∙ ap (λ t. t ++ plain_slots (drop n xs)) (map_plain 0 n r)
       ∙ ap (λ t. written_each n (plain r) ++ t) (sym (drop-map plain_slot n xs))
 
-  pub filled-used : take n (plain_slots ys) ≡ written_each n (plain r)
-  filled-used =
-      ap (take n) filled-slots
+  pub filled_used : take n (plain_slots ys) ≡ written_each n (plain r)
+  filled_used =
+      ap (take n) filled_slots
       ∙ take_at (written_each n (plain r)) (drop n (plain_slots xs)) n (length-map-range_with_len (λ s. written s (plain r)) 0 n)
 
   -- and the record is the newest of each site
@@ -63,7 +63,7 @@ module _ (n : ℕ) (r : Record) (xs ys : List Slot) (within : n ≤ length xs) (
       (length_newest n (take n (plain_slots ys)) ∙ sym (length-replicate n e))
       (λ s h.
       let low : s < n = omega (arith, length_newest n (take n (plain_slots ys))) in
-      first_at n ys n s (f s) filled-order (omega (arith, filled-length)) (omega arith) low
+      first_at n ys n s (f s) filled_order (omega (arith, filled_length)) (omega arith) low
       ∙ ap (λ x. plain x.own)
-      (sym (get_or-take n ys s (f s) low) ∙ ap (λ (t : List Slot). get_or t s (f s)) first-slots ∙ get_or-map-range_with_len f 0 n s s (f s) low (omega arith))
+      (sym (get_or-take n ys s (f s) low) ∙ ap (λ (t : List Slot). get_or t s (f s)) first_slots ∙ get_or-map-range_with_len f 0 n s s (f s) low (omega arith))
       ∙ sym (get_or-replicate n s e no_entry low))

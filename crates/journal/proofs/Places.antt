@@ -6,7 +6,7 @@ use Rattle.rules.specs.Entries.{plain}
 use Rattle.rules.specs.World.{no_entry}
 use Rattle.journal.specs.Slots.{plain_slots, InOrder, newest}
 use Rattle.journal.specs.declared.slot.Slot.{Slot}
-use Rattle.journal.proofs.Replay.{back-other, back-here, in_order_at}
+use Rattle.journal.proofs.Replay.{back_other, back_here, in_order_at}
 
 pub same_before : (n : ℕ) (xs ys : List Slot) (k : ℕ) (d : Slot) → k < n → take n ys ≡ take n xs → get_or ys k d ≡ get_or xs k d
 same_before n xs ys k d l e = sym (get_or-take n ys k d l) ∙ ap (λ t. get_or t k d) e ∙ get_or-take n xs k d l
@@ -43,7 +43,7 @@ newest_below n xs u s d e h w l = go u w (omega arith)
             omega arith,
             same,
             (λ j a b. absurd (omega arith)),
-            back-here n xs (suc i) s d (omega arith) m (ap (λ j. (get_or xs j d).site) here ∙ same) l
+            back_here n xs (suc i) s d (omega arith) m (ap (λ j. (get_or xs j d).site) here ∙ same) l
                 ∙ ap (λ j. plain (get_or xs j d).own) here,
           ),
         ))
@@ -55,7 +55,7 @@ newest_below n xs u s d e h w l = go u w (omega arith)
             omega (arith, rest.1.0),
             rest.1.1,
             (λ j a b is. ⊎_elim (λ (same : j ≡ i). other (ap (λ q. (get_or xs q d).site) (sym same) ∙ is)) (λ (less : j ≡ i → ⊥). rest.1.2 j a (below_at j i less b) is) (cases_eq j i)),
-            back-other n xs (suc i) s d (omega arith) m (λ is. other (ap (λ j. (get_or xs j d).site) (sym here) ∙ is))
+            back_other n xs (suc i) s d (omega arith) m (λ is. other (ap (λ j. (get_or xs j d).site) (sym here) ∙ is))
                 ∙ ap (λ j. get_or (newest n (take j (plain_slots xs))) s no_entry) here ∙ rest.1.3,
           ),
         ))

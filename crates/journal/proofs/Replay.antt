@@ -31,12 +31,12 @@ module _ (n : ℕ) (xs : List Slot) (i s : ℕ) (x : Slot) (some : 0 < i) (withi
       ∙ ap (put (newest n (take (i - 1) (plain_slots xs)))) (get_or-map plain_slot xs (i - 1) x (written 0 no_entry) (omega arith))
 
   -- the last slot is of another site
-  pub back-other : ((get_or xs (i - 1) x).site ≡ s → ⊥) → get_or (newest n (take i (plain_slots xs))) s no_entry ≡ get_or (newest n (take (i - 1) (plain_slots xs))) s no_entry
-  back-other ne = ap (λ es. get_or es s no_entry) last ∙ get_or-set_other _ _ s _ no_entry (λ e. ne (sym e))
+  pub back_other : ((get_or xs (i - 1) x).site ≡ s → ⊥) → get_or (newest n (take i (plain_slots xs))) s no_entry ≡ get_or (newest n (take (i - 1) (plain_slots xs))) s no_entry
+  back_other ne = ap (λ es. get_or es s no_entry) last ∙ get_or-set_other _ _ s _ no_entry (λ e. ne (sym e))
 
   -- the last slot is of the site
-  pub back-here : (get_or xs (i - 1) x).site ≡ s → s < n → get_or (newest n (take i (plain_slots xs))) s no_entry ≡ plain (get_or xs (i - 1) x).own
-  back-here here known =
+  pub back_here : (get_or xs (i - 1) x).site ≡ s → s < n → get_or (newest n (take i (plain_slots xs))) s no_entry ≡ plain (get_or xs (i - 1) x).own
+  back_here here known =
       let y = get_or xs (i - 1) x in
       ap (λ es. get_or es s no_entry) last
       ∙ ap (λ j. get_or (set (newest n (take (i - 1) (plain_slots xs))) j (plain y.own)) s no_entry) here
@@ -60,11 +60,11 @@ first_at n xs (suc k) s x e h m l =
     let here : suc k - 1 ≡ k = omega arith in
     ⊎_elim
     (λ (same : k ≡ s).
-    back-here n xs (suc k) s x (omega arith) (omega arith)
+    back_here n xs (suc k) s x (omega arith) (omega arith)
     (ap (λ j. (get_or xs j x).site) here ∙ in_order_at n xs k x e h (omega arith) ∙ same) (omega arith)
     ∙ ap (λ j. plain (get_or xs j x).own) (here ∙ same))
     (λ (other : k ≡ s → ⊥).
-    back-other n xs (suc k) s x (omega arith) (omega arith)
+    back_other n xs (suc k) s x (omega arith) (omega arith)
     (λ is. other (sym (ap (λ j. (get_or xs j x).site) here ∙ in_order_at n xs k x e h (omega arith)) ∙ is))
     ∙ ap (λ j. get_or (newest n (take j (plain_slots xs))) s no_entry) here
     ∙ first_at n xs k s x e h (omega arith) (omega arith))

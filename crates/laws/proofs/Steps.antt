@@ -30,8 +30,8 @@ pub record Fits (G : Type 0) (s : ℕ) (e : Entry) (p : Plan) : Type 0 where
 
 module _ (G : Type 0) (s : ℕ) (e : Entry) where
   -- only the state changes
-  in-state-fits : (t : State) (r : Option Role) (k : Kind) (x : ℕ) → (G → decided e.state ≡ true → t ≡ e.state) → Fits G s e (plan s (in_state e t) r k x)
-  in-state-fits t r k x h = record {
+  in_state_fits : (t : State) (r : Option Role) (k : Kind) (x : ℕ) → (G → decided e.state ≡ true → t ≡ e.state) → Fits G s e (plan s (in_state e t) r k x)
+  in_state_fits t r k x h = record {
     own_site = refl;
     rises = λ l. record { elected = le_refl e.elected; attempt = le_refl e.attempt };
     lawful = λ l. l;
@@ -39,8 +39,8 @@ module _ (G : Type 0) (s : ℕ) (e : Entry) where
   }
 
   -- the last attempt comes up to the last elected
-  attempted-in-fits : (t : State) (r : Option Role) (k : Kind) (x : ℕ) → (G → decided e.state ≡ true → t ≡ e.state) → Fits G s e (plan s (attempted_in e t) r k x)
-  attempted-in-fits t r k x h = record {
+  attempted_in_fits : (t : State) (r : Option Role) (k : Kind) (x : ℕ) → (G → decided e.state ≡ true → t ≡ e.state) → Fits G s e (plan s (attempted_in e t) r k x)
+  attempted_in_fits t r k x h = record {
     own_site = refl;
     rises = λ l. record { elected = le_refl e.elected; attempt = l.2 };
     lawful = λ l. (l.0, l.1, le_refl e.elected, l.3);
@@ -48,8 +48,8 @@ module _ (G : Type 0) (s : ℕ) (e : Entry) where
   }
 
   -- the last elected rises
-  joined-fits : (n lead : ℕ) (r : Option Role) (k : Kind) (x : ℕ) → can_join e n lead ≡ true → Fits G s e (plan s (joined e n lead) r k x)
-  joined-fits n lead r k x h =
+  joined_fits : (n lead : ℕ) (r : Option Role) (k : Kind) (x : ℕ) → can_join e n lead ≡ true → Fits G s e (plan s (joined e n lead) r k x)
+  joined_fits n lead r k x h =
       let a = and_parts (ltb e.elected n) (ltb n 1000000 && ltb lead 16) h in
       let b = and_parts (ltb n 1000000) (ltb lead 16) a.1 in
       let up = ltb-true e.elected n a.0 in
@@ -75,8 +75,8 @@ undecided : (t u : State) → decided t ≡ false → decided t ≡ true → u �
 undecided t u n d = absurd (true≢false (sym d ∙ n))
 
 begin_fits : (v : Vote) (s all : ℕ) (e : Entry) (r : Option Role) → not (is_initial e.state) ≡ false → Fits (Unit {0}) s e (begin_plan v s all e r)
-begin_fits vote.Yes s all e r i = in-state-fits (Unit {0}) s e _ _ _ _ (λ g d. initial_undecided e.state state.Waiting i d)
-begin_fits vote.No s all e r i = attempted-in-fits (Unit {0}) s e _ _ _ _ (λ g d. initial_undecided e.state state.Aborted i d)
+begin_fits vote.Yes s all e r i = in_state_fits (Unit {0}) s e _ _ _ _ (λ g d. initial_undecided e.state state.Waiting i d)
+begin_fits vote.No s all e r i = attempted_in_fits (Unit {0}) s e _ _ _ _ (λ g d. initial_undecided e.state state.Aborted i d)
 
 pub begun_fits : (v : Vote) (s all : ℕ) (e : Entry) (r : Option Role) → Held (Fits (Unit {0}) s e) (begun v s all e r)
 begun_fits v s all e r =
@@ -88,27 +88,27 @@ pub voted_fits : (v : Vote) (m : Message) (e : Entry) (r : Option Role) → Held
 voted_fits v m e r =
     held_unless (Fits (Unit {0}) m.receiver e) (not (matches e m)) _ refusal.Stale (λ b.
     held_unless (Fits (Unit {0}) m.receiver e) (not (is_initial e.state)) _ refusal.Unfit (λ i.
-    in-state-fits (Unit {0}) m.receiver e _ _ _ _ (λ g d. initial_undecided e.state (voted_state v) i d)))
+    in_state_fits (Unit {0}) m.receiver e _ _ _ _ (λ g d. initial_undecided e.state (voted_state v) i d)))
 
 elected_fits : (m : Message) (e : Entry) → Held (Fits (Unit {0}) m.receiver e) (elected_to m e (join e m.number m.sender))
 elected_fits m e = by (can_join e m.number m.sender) refl
   where
     by : (b : Bool) → can_join e m.number m.sender ≡ b → Held (Fits (Unit {0}) m.receiver e) (elected_to m e (cond b (Some (joined e m.number m.sender)) None))
-    by true h = joined-fits (Unit {0}) m.receiver e m.number m.sender _ _ _ h
+    by true h = joined_fits (Unit {0}) m.receiver e m.number m.sender _ _ _ h
     by false h = tt
 
 attempted_fits : (o : Outcome) (m : Message) (e : Entry) (r : Option Role) → Held (Fits (Unit {0}) m.receiver e) (attempted o m e r)
 attempted_fits o m e r =
     held_unless (Fits (Unit {0}) m.receiver e) (not (matches e m)) _ refusal.Stale (λ b.
     held_unless (Fits (Unit {0}) m.receiver e) (decided e.state || leb m.number e.attempt) _ refusal.Unfit (λ i.
-    attempted-in-fits (Unit {0}) m.receiver e _ _ _ _
+    attempted_in_fits (Unit {0}) m.receiver e _ _ _ _
     (λ g d. undecided e.state (pre_state o) (or_parts (decided e.state) (leb m.number e.attempt) i).0 d)))
 
 concluded_fits : (o : Outcome) (m : Message) (e : Entry) (r : Option Role) → Held (Fits (Unit {0}) m.receiver e) (concluded o m e r)
 concluded_fits o m e r =
     held_unless (Fits (Unit {0}) m.receiver e) (not (matches e m)) _ refusal.Stale (λ b.
     held_unless (Fits (Unit {0}) m.receiver e) (decided e.state) _ refusal.Unfit (λ i.
-    in-state-fits (Unit {0}) m.receiver e _ _ _ _ (λ g d. undecided e.state (final_state o) i d)))
+    in_state_fits (Unit {0}) m.receiver e _ _ _ _ (λ g d. undecided e.state (final_state o) i d)))
 
 pub received_fits : (k : Kind) (m : Message) (e : Entry) (r : Option Role) → Held (Fits (Unit {0}) m.receiver e) (received k m e r)
 received_fits kind.Start m e r = tt
@@ -134,8 +134,8 @@ Keeps t (Some x) = decided t ≡ true → ruled_state x ≡ t
 
 ruled_fits : (G : Type 0) (s g : ℕ) (e : Entry) (x : Option Ruling) → (G → Keeps e.state x) → Held (Fits G s e) (ruled s g e x)
 ruled_fits G s g e None h = tt
-ruled_fits G s g e (Some (ruling.Attempt o)) h = attempted-in-fits G s e _ _ _ _ h
-ruled_fits G s g e (Some (ruling.Decide o)) h = attempted-in-fits G s e _ _ _ _ h
+ruled_fits G s g e (Some (ruling.Attempt o)) h = attempted_in_fits G s e _ _ _ _ h
+ruled_fits G s g e (Some (ruling.Decide o)) h = attempted_in_fits G s e _ _ _ _ h
 
 undecided_keeps : (t : State) (x : Option Ruling) → decided t ≡ false → Keeps t x
 undecided_keeps t None n = tt

@@ -16,14 +16,14 @@ pub digit_range : (b : ℕ) → is_ascii_digit b ≡ true → (48 ≤ b) × (b �
 digit_range b h = grind (arith, nat_tests)
 
 module _ (n : ℕ) (bs : List ℕ) (i : ℕ) (l : i < length bs) where
-  at-digit : more_digits n (drop i bs) ≡ cond (is_ascii_digit (get_or bs i 0)) (more_digits (n * 10 + (get_or bs i 0 - 48)) (drop (i + 1) bs)) None
-  at-digit = at_drop_more (more_digits n) bs i 0 l
+  at_digit : more_digits n (drop i bs) ≡ cond (is_ascii_digit (get_or bs i 0)) (more_digits (n * 10 + (get_or bs i 0 - 48)) (drop (i + 1) bs)) None
+  at_digit = at_drop_more (more_digits n) bs i 0 l
 
-  pub digit-yes : is_ascii_digit (get_or bs i 0) ≡ true → more_digits n (drop i bs) ≡ more_digits (n * 10 + (get_or bs i 0 - 48)) (drop (i + 1) bs)
-  digit-yes h = at-digit ∙ rw h
+  pub digit_yes : is_ascii_digit (get_or bs i 0) ≡ true → more_digits n (drop i bs) ≡ more_digits (n * 10 + (get_or bs i 0 - 48)) (drop (i + 1) bs)
+  digit_yes h = at_digit ∙ rw h
 
-  pub digit-no : is_ascii_digit (get_or bs i 0) ≡ false → more_digits n (drop i bs) ≡ None
-  digit-no h = at-digit ∙ rw h
+  pub digit_no : is_ascii_digit (get_or bs i 0) ≡ false → more_digits n (drop i bs) ≡ None
+  digit_no h = at_digit ∙ rw h
 
 led : (bs : List ℕ) → 49 ≤ get_or bs 0 0 → get_or bs 0 0 < 58 → length (drop 1 bs) ≤ 6 → more_digits (get_or bs 0 0 - 48) (drop 1 bs) ≡ numeral bs
 led [] a b l = absurd (omega arith)

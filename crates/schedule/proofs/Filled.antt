@@ -19,8 +19,8 @@ module _ (n i : ℕ) (l : i < n) (vs : List ℕ) (r : Row) where
   pub filled_more : (v : ℕ) → Ok v ≡ number_at r → filled (n - (i + 1)) (i + 1) (set vs i v) (past r) ≡ filled (n - i) i vs r
   filled_more v e = rw (one_more n i l, ← e)
 
-  pub filled-bad : (p : Place) → Err p ≡ number_at r → Err p ≡ filled (n - i) i vs r
-  filled-bad p e = rw (one_more n i l, ← e)
+  pub filled_bad : (p : Place) → Err p ≡ number_at r → Err p ≡ filled (n - i) i vs r
+  filled_bad p e = rw (one_more n i l, ← e)
 
   pub past_more : past_all (n - (i + 1)) (past r) ≡ past_all (n - i) r
   past_more = rw (one_more n i l)

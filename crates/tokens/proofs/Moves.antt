@@ -21,17 +21,17 @@ module _ (s : List ℕ) (at n : ℕ) where
   pub none_left : length s ≤ at → unread n (drop at s) ≡ []
   none_left h = rw (drop_all at s h) (elim (eqb n 0) as (λ v. cond v (first_fields []) (more_fields (line_left [])) ≡ []) [ true ↦ refl | false ↦ refl ])
 
-  pub line-begins : at < length s → n ≡ 0 → unread n (drop at s) ≡ fields (line_left (drop at s))
-  line-begins l h = rw (fresh n h, drop_more s at 0 l)
+  pub line_begins : at < length s → n ≡ 0 → unread n (drop at s) ≡ fields (line_left (drop at s))
+  line_begins l h = rw (fresh n h, drop_more s at 0 l)
 
-  pub line-ends : at < length s → 0 < n → get_or s at 0 ≡ 10 → unread n (drop at s) ≡ []
-  line-ends l h e = rw (begun n h, drop_more s at 0 l, e)
+  pub line_ends : at < length s → 0 < n → get_or s at 0 ≡ 10 → unread n (drop at s) ≡ []
+  line_ends l h e = rw (begun n h, drop_more s at 0 l, e)
 
-  pub line-goes-on : at < length s → 0 < n → (get_or s at 0 ≡ 10 → ⊥) → unread n (drop at s) ≡ fields (line_left (drop (at + 1) s))
-  line-goes-on l h e = let q : eqb (get_or s at 0) 10 ≡ false = grind (arith, nat_tests) in rw (begun n h, drop_more s at 0 l, q)
+  pub line_goes_on : at < length s → 0 < n → (get_or s at 0 ≡ 10 → ⊥) → unread n (drop at s) ≡ fields (line_left (drop (at + 1) s))
+  line_goes_on l h e = let q : eqb (get_or s at 0) 10 ≡ false = grind (arith, nat_tests) in rw (begun n h, drop_more s at 0 l, q)
 
-  pub not-newline : at < length s → (get_or s at 0 ≡ 10 → ⊥) → past_line (drop at s) ≡ past_line (drop (at + 1) s)
-  not-newline l e = let q : eqb (get_or s at 0) 10 ≡ false = grind (arith, nat_tests) in rw (drop_more s at 0 l, q)
+  pub not_newline : at < length s → (get_or s at 0 ≡ 10 → ⊥) → past_line (drop at s) ≡ past_line (drop (at + 1) s)
+  not_newline l e = let q : eqb (get_or s at 0) 10 ≡ false = grind (arith, nat_tests) in rw (drop_more s at 0 l, q)
 
 -- the field from start on, which ends at end
 module _ (s : List ℕ) (at n line start end : ℕ) (e : end ≡ start + prefix_len in_field (drop start s)) (left : unread n (drop at s) ≡ fields (line_left (drop start s))) where
@@ -67,11 +67,11 @@ module _ (s : List ℕ) (at line n : ℕ) where
   abbrev all-ahead : List Row
   all-ahead = cond (eqb n 0) (rows line (lines (drop at s))) now-and-later
 
-  pub begun-ahead : 0 < n → all-ahead ≡ cond (ltb 0 n) now-and-later []
-  begun-ahead h = let l : ltb 0 n ≡ true = grind (arith, nat_tests) in rw (begun n h, l)
+  pub begun_ahead : 0 < n → all-ahead ≡ cond (ltb 0 n) now-and-later []
+  begun_ahead h = let l : ltb 0 n ≡ true = grind (arith, nat_tests) in rw (begun n h, l)
 
-  pub fresh-ahead : n ≤ 0 → all-ahead ≡ cond (ltb at (length s)) now-and-later []
-  fresh-ahead h = go (ltb at (length s)) refl
+  pub fresh_ahead : n ≤ 0 → all-ahead ≡ cond (ltb at (length s)) now-and-later []
+  fresh_ahead h = go (ltb at (length s)) refl
     where
       z : n ≡ 0
       z = omega arith
@@ -85,8 +85,8 @@ module _ (s : List ℕ) (at line end : ℕ) (e : end ≡ at + prefix_len in_line
   after : past_line (drop at s) ≡ drop (end + 1) s
   after = line_passed (drop at s) ∙ drop-drop (prefix_len in_line (drop at s) + 1) at s ∙ ap (λ k. drop k s) (omega arith)
 
-  pub line-left-behind : rows (line + 1) (lines (drop (end + 1) s)) ≡ rows (line + 1) (lines (past_line (drop at s)))
-  line-left-behind = rw after
+  pub line_left_behind : rows (line + 1) (lines (drop (end + 1) s)) ≡ rows (line + 1) (lines (past_line (drop at s)))
+  line_left_behind = rw after
 
   pub last_line : length s ≤ end → rows line (lines (drop end s)) ≡ rows (line + 1) (lines (past_line (drop at s)))
   last_line l = no_rows line (drop end s) (let d = length-drop end s in omega arith) ∙ sym (rw after (no_rows (line + 1) (drop (end + 1) s) (let d = length-drop (end + 1) s in omega arith)))

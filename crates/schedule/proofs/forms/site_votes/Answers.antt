@@ -1,13 +1,13 @@
 use Rattle.std.proofs.Common.{◌∙◌, length-set}
 use Rattle.std.proofs.lemmas.Result.{err_from_is_err_and}
 use Rattle.tokens.specs.Ahead.{here}
-use Rattle.schedule.proofs.Filled.{filled_more, filled-bad, filled_all, filled_padded, past_more, past_whole}
+use Rattle.schedule.proofs.Filled.{filled_more, filled_bad, filled_all, filled_padded, past_more, past_whole}
 use Rattle.schedule.proofs.forms.site_votes.Goals as goal
 
 pub returns-in_err-votes : goal.returns-in_err-votes
 returns-in_err-votes c =
     let p = err_from_is_err_and c.from_residual.result c.from_residual.ensures.1 in
-    let bad = filled-bad c.args.sites c.loop-site.site c.loop-site-test.true c.loop-site.votes _ _ c.in_err-votes.ensures.told in
+    let bad = filled_bad c.args.sites c.loop-site.site c.loop-site-test.true c.loop-site.votes _ _ c.in_err-votes.ensures.told in
     rw (p.1, p.2) (record {
       told = bad ∙ c.loop-site.invariant.1 ∙ filled_padded c.args.sites _ c.requires;
       moves = tt;

@@ -1,5 +1,5 @@
 use Rattle.std.proofs.Common.{refl, arith}
-use Rattle.tokens.proofs.Moves.{none_left, line-begins, line-ends, line-goes-on, not-newline}
+use Rattle.tokens.proofs.Moves.{none_left, line_begins, line_ends, line_goes_on, not_newline}
 use Rattle.tokens.proofs.reader.Reader.field_start.Goals as goal
 
 pub returns-then-self-input : goal.returns-then-self-input
@@ -14,14 +14,14 @@ returns-then-self-eq0 c =
       within = omega arith;
       beyond = omega arith;
       far = omega arith;
-      left = line-begins r.input.now r.at r.passed (omega arith) (omega arith);
+      left = line_begins r.input.now r.at r.passed (omega arith) (omega arith);
       same = refl;
     }
 
 pub returns-then-input-self-eq10 : goal.returns-then-input-self-eq10
 returns-then-input-self-eq10 c =
     let r = c.args.self.now in
-    line-ends r.input.now r.at r.passed (omega arith) (omega arith) (omega arith)
+    line_ends r.input.now r.at r.passed (omega arith) (omega arith) (omega arith)
 
 pub returns-else-input-self-eq10 : goal.returns-else-input-self-eq10
 returns-else-input-self-eq10 c =
@@ -30,6 +30,6 @@ returns-else-input-self-eq10 c =
       within = omega arith;
       beyond = omega arith;
       far = omega arith;
-      left = line-goes-on r.input.now r.at r.passed (omega arith) (omega arith) c.if-input-self-eq10.false;
-      same = not-newline r.input.now r.at 0 (omega arith) c.if-input-self-eq10.false;
+      left = line_goes_on r.input.now r.at r.passed (omega arith) (omega arith) c.if-input-self-eq10.false;
+      same = not_newline r.input.now r.at 0 (omega arith) c.if-input-self-eq10.false;
     }
