@@ -1,8 +1,8 @@
 #!/usr/bin/env python3
 """Compare a program with the expected outputs in tools/cases.txt and examples/.
 
-    python3 tools/compare.py                  the reference program
-    python3 tools/compare.py target/bin/rehearse   any other program, with arguments
+    python3 tools/compare.py                                 the reference program
+    python3 tools/compare.py crates/rehearse/out/rehearse    any other program, with arguments
 
 Each input goes to the program's standard input. Output must be equal byte for
 byte and the status 0. Ends with status 1 if any comparison fails.

@@ -1,7 +1,7 @@
 ghost use Rattle.std.specs.Prelude.{◌≤◌, length};
 ghost use Rattle.journal.specs.Slots.{counting_slots, InOrder};
 
-mod vault;
+mod keeping;
 
 use crate::slot::Slot;
 

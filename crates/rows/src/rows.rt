@@ -1,6 +1,6 @@
 ghost use Rattle.std.specs.Prelude.{ℕ, ◌≤◌, length};
 
-mod vault;
+mod keeping;
 
 use rules::record::Record;
 
