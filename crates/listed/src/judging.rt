@@ -7,7 +7,6 @@ ghost use Rattle.listed.specs.Views.{listing};
 ghost use Rattle.std.proofs.lemmas.Bool.{and_parts};
 ghost use Rattle.sites.specs.Sets;
 ghost use Rattle.listed.specs.Crosses.{lists_cross};
-ghost use Rattle.std.proofs.Common.{rules, arith};
 
 use crate::listing::Listed;
 use quorum::Policy;
@@ -47,9 +46,11 @@ impl Policy for Listed {
         (and_parts (Sets.known p.sites x) (some (includes x) commit) c).1
         (and_parts (Sets.known p.sites y) (some (includes y) abort) a).1 };
 
-    ghost commits_known = { first_of (Prim.search rules, Prim.grind (arith, Self.row.coded.inj)) };
+    ghost commits_known = { λ p x c.
+        (and_parts (Sets.known p.sites x) (some (includes x) (take p.commits p.commit)) c).0 };
 
-    ghost aborts_known = { first_of (Prim.search rules, Prim.grind (arith, Self.row.coded.inj)) };
+    ghost aborts_known = { λ p x a.
+        (and_parts (Sets.known p.sites x) (some (includes x) (take p.aborts p.abort)) a).0 };
 
     fn sites(&self) -> u32 {
         self.sites

@@ -1,6 +1,6 @@
 // What a policy by votes judges of a set of sites.
 ghost use Rattle.std.specs.Prelude.{◌≡◌, ◌≤◌, length, take, sum, nat_le};
-ghost use Rattle.std.proofs.Common.{length-take, arith, rules};
+ghost use Rattle.std.proofs.Common.{length-take, arith};
 ghost use Rattle.votes.specs.Ballots.{weight_from, enough_votes, commits_of, aborts_of};
 ghost use Rattle.votes.specs.Views.{ballot};
 ghost use Rattle.std.proofs.lemmas.Bool.{and_parts, leb-true};
@@ -47,9 +47,11 @@ impl Policy for Votes {
         let m = weights_cross 0 x y vs (omega (arith, p.crossing)) in
         (m.0, (omega (arith, p.few, m.1.0, length-take p.sites p.votes), m.1.1, m.1.2)) };
 
-    ghost commits_known = { first_of (Prim.search rules, Prim.grind (arith, Self.row.coded.inj)) };
+    ghost commits_known = { λ p x c.
+        (and_parts (Sets.known p.sites x) (nat_le p.commit (weight_from 0 x (take p.sites p.votes))) c).0 };
 
-    ghost aborts_known = { first_of (Prim.search rules, Prim.grind (arith, Self.row.coded.inj)) };
+    ghost aborts_known = { λ p x a.
+        (and_parts (Sets.known p.sites x) (nat_le p.abort (weight_from 0 x (take p.sites p.votes))) a).0 };
 
     fn sites(&self) -> u32 {
         self.sites
