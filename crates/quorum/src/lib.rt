@@ -1,39 +1,33 @@
 //! Quorums: which sets of sites may commit an approval and which may abort it.
 #![tactic(auto)]
 
-ghost use Rattle.std.specs.Prelude.{Bool, true, ◌≡◌, ℕ};
-ghost use Rattle.sites.specs.Sets.{known, Shared};
+ghost use Rattle.std.specs.Prelude.{◌≡◌};
+ghost use Rattle.quorum.specs.Quorums.{Quorums, Crossing, Known};
 
 use sites::SiteSet;
 
 // Which sets of sites may commit and which may abort.
 pub trait Policy {
-    // The number of sites.
-    ghost sites: { Self → ℕ };
-
-    // The set may commit.
-    ghost commits: { Self → ℕ → Bool };
-
-    // The set may abort.
-    ghost aborts: { Self → ℕ → Bool };
+    // The number of sites, the sets that may commit and those that may abort.
+    ghost quorums: { Self → Quorums };
 
     // How many sites there are.
     fn sites(&self) -> u32
-        ensures { result ≡ sites self.now };
+        ensures { result ≡ (quorums self.now).sites };
 
     // May these sites commit?
     fn is_commit_quorum(&self, group: SiteSet) -> bool
-        ensures { result ≡ commits self.now group };
+        ensures { result ≡ (quorums self.now).commits group };
 
     // May these sites abort?
     fn is_abort_quorum(&self, group: SiteSet) -> bool
-        ensures { result ≡ aborts self.now group };
+        ensures { result ≡ (quorums self.now).aborts group };
 
     // Every commit quorum shares a site with every abort quorum.
-    ghost crossing: { (p : Self) (x y : ℕ) → commits p x ≡ true → aborts p y ≡ true → Shared x y };
+    ghost crossing: { (p : Self) → Crossing (quorums p) };
 
     // A set with an unknown site is a quorum of neither kind.
-    ghost commits_known: { (p : Self) (x : ℕ) → commits p x ≡ true → known (sites p) x ≡ true };
+    ghost commits_known: { (p : Self) → Known (quorums p).sites (quorums p).commits };
 
-    ghost aborts_known: { (p : Self) (x : ℕ) → aborts p x ≡ true → known (sites p) x ≡ true };
+    ghost aborts_known: { (p : Self) → Known (quorums p).sites (quorums p).aborts };
 }

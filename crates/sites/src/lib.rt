@@ -5,8 +5,8 @@ pub mod laws;
 pub mod refusal;
 pub mod set;
 
+pub use refusal::Refusal;
+pub use set::SiteSet;
+
 // A site, numbered from 0.
 pub type Site = u32;
-
-// A set of sites: site s counts 2^s.
-pub type SiteSet = u32;
