@@ -4,13 +4,26 @@ use Rattle.sites.specs.Sets.{size}
 use Rattle.sites.specs.declared.refusal.Refusal.{Refusal}
 use Rattle.sites.specs.declared.refusal.Refusal.TheVariants as refusal
 use Rattle.rules.specs.Entries.{Entry, starting}
-use Rattle.rules.specs.Plans.{Plan}
 use Rattle.rules.specs.Posting.{broadcast, written, room, message}
 use Rattle.rules.specs.declared.message.Kind.TheVariants as kind
 use Rattle.rules.specs.declared.message.Message.{Message}
 use Rattle.rules.specs.declared.role.Role.{Role}
-use Rattle.rules.specs.declared.rows.Core.{Core}
 use Rattle.rules.specs.declared.rows.Row.{Row}
+use Rattle.rules.specs.declared.rows.Rows.{Rows}
+use Rattle.rules.specs.declared.step.Step.{Step}
+
+-- the net: its sites, the first coordinator, how many messages were sent, and a row for each site that there can be
+pub record Core : Type 0 where
+  pub sites : ℕ
+  pub first : ℕ
+  pub sent : ℕ
+  pub rows : Rows
+
+-- a vault: its number of sites, the record of each, and how many writes are left at least
+pub record Stored : Type 0 where
+  pub sites : ℕ
+  pub entries : List Entry
+  pub left : ℕ
 
 pub record World : Type 0 where
   pub net : Core
@@ -19,6 +32,10 @@ pub record World : Type 0 where
 
 abbrev pub world : Core → List Entry → List Message → World
 world c es ms = record { net = c; entries = es; messages = ms }
+
+-- the net with what a vault holds
+abbrev pub world_with : Core → Stored → List Message → World
+world_with c v ms = world c v.entries ms
 
 -- what is read outside of a list
 abbrev pub no_entry : Entry
@@ -57,7 +74,7 @@ abbrev pub with_rows : Core → ℕ → List Row → Core
 with_rows c k rows = record { sites = c.sites; first = c.first; sent = k; rows = record { row = rows } }
 
 -- a step was made
-abbrev pub applied : World → Plan → World
+abbrev pub applied : World → Step → World
 applied w p =
     world
     (with_rows w.net (w.net.sent + size p.to) (with_role w.net p.site p.role))
@@ -65,7 +82,7 @@ applied w p =
     (written w.messages w.net.sent (broadcast p.kind p.own.elected p.site p.to))
 
 -- the list has places for the messages of the step
-abbrev pub placed : World → Result Plan Refusal → Result Plan Refusal
+abbrev pub placed : World → Result Step Refusal → Result Step Refusal
 placed w (Ok p) = cond (room (length w.messages) w.net.sent p.to) (Ok p) (Err refusal.ListFull)
 placed w (Err x) = Err x
 
@@ -74,20 +91,20 @@ abbrev pub write_price : ℕ
 write_price = 1
 
 -- the vault has enough left for the write
-abbrev pub paid : ℕ → Result Plan Refusal → Result Plan Refusal
+abbrev pub paid : ℕ → Result Step Refusal → Result Step Refusal
 paid l (Ok p) = cond (nat_lt l write_price) (Err refusal.VaultFull) (Ok p)
 paid l (Err x) = Err x
 
 -- with l left in the vault
-abbrev pub admitted : ℕ → World → Result Plan Refusal → Result Plan Refusal
+abbrev pub admitted : ℕ → World → Result Step Refusal → Result Step Refusal
 admitted l w x = paid l (placed w x)
 
-abbrev pub answer_of : Result Plan Refusal → Result (Unit {0}) Refusal
+abbrev pub answer_of : Result Step Refusal → Result (Unit {0}) Refusal
 answer_of (Ok p) = Ok tt
 answer_of (Err x) = Err x
 
 -- a refused call changes nothing
-abbrev pub after_of : World → Result Plan Refusal → World
+abbrev pub after_of : World → Result Step Refusal → World
 after_of w (Ok p) = applied w p
 after_of w (Err x) = w
 

@@ -1,8 +1,25 @@
+ghost use Rattle.std.specs.Prelude.{◌≡◌};
+ghost use Rattle.rules.specs.Entries.{voted_state};
+
+use crate::state::State;
+
 // A site's vote on the approval.
 #[derive(Clone, Copy)]
 pub enum Vote {
     Yes,
     No,
+}
+
+impl Vote {
+    // The state of a site that has voted so.
+    pub fn state(self) -> State
+        ensures { result ≡ voted_state self }
+    {
+        match self {
+            Vote::Yes => State::Waiting,
+            Vote::No => State::Aborted,
+        }
+    }
 }
 
 // A call of the net, with its numbers as they were given.

@@ -8,16 +8,14 @@ use crate::message::Kind;
 use crate::role::{Attempt, Canvass, Poll, Role};
 use crate::rows::Row;
 use crate::state::State;
-use sites::Site;
-use sites::refusal::Refusal;
-use sites::set::{has, with_site};
+use sites::{Refusal, Site};
 
 impl Poll {
     // A Yes of a site.
     pub(crate) fn count_yes(&mut self, site: Site)
         ensures { self.new ≡ with_yes self.old site }
     {
-        self.yes = with_site(self.yes, site);
+        self.yes = self.yes.with_site(site);
     }
 
     pub(crate) fn count_no(&mut self)
@@ -32,10 +30,10 @@ impl Canvass {
     pub(crate) fn add_report(&mut self, site: Site, state: State, attempt: u32)
         ensures { self.new ≡ with_report self.old site state attempt }
     {
-        if has(self.reported, site) {
+        if self.reported.has(site) {
             return;
         }
-        self.reported = with_site(self.reported, site);
+        self.reported = self.reported.with_site(site);
         self.aborted |= state == State::Aborted;
         self.committed |= state == State::Committed;
         if attempt > self.greatest {
@@ -52,7 +50,7 @@ impl Attempt {
     pub(crate) fn add_ack(&mut self, site: Site)
         ensures { self.new ≡ with_ack self.old site }
     {
-        self.acked = with_site(self.acked, site);
+        self.acked = self.acked.with_site(site);
     }
 }
 

@@ -9,3 +9,4 @@ pub mod records;
 pub mod role;
 pub mod rows;
 pub mod state;
+pub mod step;

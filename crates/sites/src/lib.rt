@@ -3,6 +3,7 @@
 
 pub mod laws;
 pub mod refusal;
+pub mod roster;
 pub mod set;
 
 pub use refusal::Refusal;

@@ -1,30 +1,26 @@
 //! Where the records of the sites are kept.
 #![tactic(auto)]
 
-ghost use Rattle.std.specs.Prelude.{◌≡◌, ℕ, List, length, slice_index_or};
-ghost use Rattle.rules.specs.Entries.{Entry, Lawful, plain};
-ghost use Rattle.rules.specs.World.{no_entry};
-ghost use Rattle.vault.specs.Kept.{entry_read, kept, write_answer, entries_written, Spent};
+ghost use Rattle.std.specs.Prelude.{◌≡◌, ℕ, length, slice_index_or};
+ghost use Rattle.rules.specs.Entries.{Lawful};
+ghost use Rattle.rules.specs.World.{Stored, no_entry};
+ghost use Rattle.vault.specs.Kept.{kept, write_answer, entries_written, Spent};
 
 use rules::record::Record;
-use sites::Site;
-use sites::refusal::Refusal;
+use sites::{Refusal, Site};
 
 pub mod opening;
 
 // One record for each site, and a number of writes that are left.
 pub trait Vault {
-    ghost sites: { Self → ℕ };
-
-    ghost entries: { Self → List Entry };
-
-    ghost left: { Self → ℕ };
+    // The number of sites, the record of each, and how many writes are left at least.
+    ghost stored: { Self → Stored };
 
     // There is just one record for each site.
-    ghost whole: { (v : Self) → length (entries v) ≡ sites v };
+    ghost whole: { (v : Self) → length (stored v).entries ≡ (stored v).sites };
 
     // Each of them is lawful.
-    ghost lawful: { (v : Self) (s : ℕ) → Lawful (slice_index_or (entries v) s no_entry) };
+    ghost lawful: { (v : Self) (s : ℕ) → Lawful (slice_index_or (stored v).entries s no_entry) };
 
     // The second vault has the memory of the first, and what is no record in it is as it was.
     ghost tied: { Self → Self → Type 0 };
@@ -34,21 +30,21 @@ pub trait Vault {
     ghost chained: { (u v w : Self) → tied u v → tied v w → tied u w };
 
     fn sites(&self) -> u32
-        ensures { result ≡ sites self.now };
+        ensures { result ≡ (stored self.now).sites };
 
     // How many writes are left at least.
     fn left(&self) -> u32
-        ensures { result ≡ left self.now };
+        ensures { result ≡ (stored self.now).left };
 
     // The record of a site.
     fn read(&self, site: Site) -> Result<Record, Refusal>
-        ensures { entry_read result ≡ kept (sites self.now) (entries self.now) site };
+        ensures { result ≡ kept (stored self.now) site };
 
     // Replaces the record of a site, and no other.
     fn write(&mut self, site: Site, own: Record) -> Result<(), Refusal>
-        ensures answer { result ≡ write_answer (sites self.old) (left self.old) site }
-        ensures sites { sites self.new ≡ sites self.old }
-        ensures entries { entries self.new ≡ entries_written result site (plain own) (entries self.old) }
-        ensures left { Spent result (left self.old) (left self.new) }
+        ensures answer { result ≡ write_answer (stored self.old) site }
+        ensures sites { (stored self.new).sites ≡ (stored self.old).sites }
+        ensures entries { (stored self.new).entries ≡ entries_written result site own (stored self.old).entries }
+        ensures left { Spent result (stored self.old).left (stored self.new).left }
         ensures tied { tied self.old self.new };
 }

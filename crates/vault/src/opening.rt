@@ -2,15 +2,14 @@
 ghost use Rattle.std.specs.Prelude.{◌≡◌};
 ghost use Rattle.vault.specs.Opening.{opening};
 
-use sites::Site;
-use sites::refusal::Refusal;
-use sites::set::MOST_SITES;
+use sites::roster::is_seated;
+use sites::{Refusal, Site};
 
 // Has a memory of that many places room for the starting records of the sites?
 pub fn check(places: usize, sites: u32, first: Site) -> Result<(), Refusal>
     ensures { result ≡ opening places sites first }
 {
-    if sites < 2 || sites > MOST_SITES || first >= sites {
+    if !is_seated(sites, first) {
         return Err(Refusal::SiteCount);
     }
     if places < sites as usize {
