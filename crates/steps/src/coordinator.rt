@@ -1,19 +1,15 @@
 // What a coordinator does by itself.
-ghost use Rattle.std.specs.Prelude.{◌≡◌, Bool, IfOk};
-ghost use Rattle.rules.specs.Entries.{plain};
-ghost use Rattle.rules.specs.Plans.{begun, poll_ruling, canvass_ruling, attempt_ruling, quorum_for, ruling_of, group_of, ruled_plan, advanced};
-ghost use Rattle.steps.specs.Steps.{plain_step, planned};
+ghost use Rattle.std.specs.Prelude.{◌≡◌, IfOk};
+ghost use Rattle.rules.specs.Plans.{begun, poll_ruling, canvass_ruling, quorum_for, ruling_of, group_of, ruled_step, advanced};
 
-use crate::step::Step;
 use quorum::Policy;
 use rules::call::Vote;
 use rules::message::Kind;
 use rules::record::Record;
 use rules::role::{Attempt, Canvass, Poll, Role, Ruling};
 use rules::state::{Outcome, State};
-use sites::refusal::Refusal;
-use sites::set::{only, without_site};
-use sites::{Site, SiteSet};
+use rules::step::Step;
+use sites::{Refusal, Site, SiteSet};
 
 // The first coordinator, one of the sites `all`, starts the approval with its own vote.
 pub fn begin(
@@ -23,7 +19,7 @@ pub fn begin(
     own: Record,
     role: Option<Role>,
 ) -> Result<Step, Refusal>
-    ensures step { planned result ≡ begun vote site all (plain own) role }
+    ensures step { result ≡ begun vote site all own role }
     ensures site { IfOk result (λ t. t.site ≡ site) }
 {
     if own.elected > 1 {
@@ -32,21 +28,18 @@ pub fn begin(
     if own.state != State::Initial {
         return Err(Refusal::Unfit);
     }
-    let to = without_site(all, site);
-    let step = match vote {
-        Vote::Yes => {
-            let poll = Poll {
-                yes: only(site),
+    let to = all.without_site(site);
+    Ok(match vote {
+        Vote::Yes => Step {
+            site,
+            own: own.in_state(State::Waiting),
+            role: Some(Role::Polling(Poll {
+                yes: SiteSet::only(site),
                 no: false,
-            };
-            Step {
-                site,
-                own: own.in_state(State::Waiting),
-                role: Some(Role::Polling(poll)),
-                kind: Kind::Start,
-                to,
-            }
-        }
+            })),
+            kind: Kind::Start,
+            to,
+        },
         Vote::No => Step {
             site,
             own: own.attempted_in(State::Aborted),
@@ -54,13 +47,12 @@ pub fn begin(
             kind: Kind::Abort,
             to,
         },
-    };
-    Ok(step)
+    })
 }
 
 // What the votes allow.
-fn poll_ruling(poll: Poll, all: SiteSet) -> Option<Ruling>
-    ensures { result ≡ poll_ruling all poll }
+fn poll_ruling(poll: &Poll, all: SiteSet) -> Option<Ruling>
+    ensures { result ≡ poll_ruling all poll.now }
 {
     if poll.no {
         Some(Ruling::Decide(Outcome::Abort))
@@ -72,8 +64,8 @@ fn poll_ruling(poll: Poll, all: SiteSet) -> Option<Ruling>
 }
 
 // What the reports allow: the first row that holds.
-fn canvass_ruling(canvass: Canvass, commit_quorum: bool, abort_quorum: bool) -> Option<Ruling>
-    ensures { result ≡ canvass_ruling commit_quorum abort_quorum canvass }
+fn canvass_ruling(canvass: &Canvass, commit_quorum: bool, abort_quorum: bool) -> Option<Ruling>
+    ensures { result ≡ canvass_ruling commit_quorum abort_quorum canvass.now }
 {
     match canvass {
         Canvass { aborted: true, .. } => Some(Ruling::Decide(Outcome::Abort)),
@@ -95,7 +87,7 @@ fn canvass_ruling(canvass: Canvass, commit_quorum: bool, abort_quorum: bool) -> 
 
 // Is the set a quorum for the outcome?
 fn is_quorum<P: Policy>(policy: &P, outcome: Outcome, group: SiteSet) -> bool
-    ensures { result ≡ quorum_for (P.Policy.commits policy.now) (P.Policy.aborts policy.now) outcome group }
+    ensures { result ≡ quorum_for (P.quorums policy.now) outcome group }
 {
     match outcome {
         Outcome::Commit => policy.is_commit_quorum(group),
@@ -104,8 +96,8 @@ fn is_quorum<P: Policy>(policy: &P, outcome: Outcome, group: SiteSet) -> bool
 }
 
 // What the role of a coordinator allows.
-fn ruling<P: Policy>(policy: &P, all: SiteSet, role: Role) -> Option<Ruling>
-    ensures { result ≡ ruling_of (P.Policy.commits policy.now) (P.Policy.aborts policy.now) all role }
+fn ruling<P: Policy>(policy: &P, all: SiteSet, role: &Role) -> Option<Ruling>
+    ensures { result ≡ ruling_of (P.quorums policy.now) all role.now }
 {
     match role {
         Role::Polling(poll) => poll_ruling(poll, all),
@@ -125,8 +117,8 @@ fn ruling<P: Policy>(policy: &P, all: SiteSet, role: Role) -> Option<Ruling>
 }
 
 // The sites that a coordinator speaks to.
-fn group_of(all: SiteSet, role: Role) -> SiteSet
-    ensures { result ≡ group_of all role }
+fn group_of(all: SiteSet, role: &Role) -> SiteSet
+    ensures { result ≡ group_of all role.now }
 {
     match role {
         Role::Polling(_) => all,
@@ -137,42 +129,29 @@ fn group_of(all: SiteSet, role: Role) -> SiteSet
 
 // The coordinator carries out a ruling in its group.
 fn carry_out(ruling: Ruling, site: Site, group: SiteSet, own: Record) -> Step
-    ensures step { plain_step result ≡ ruled_plan site group (plain own) ruling }
+    ensures step { result ≡ ruled_step site group own ruling }
     ensures site { result.site ≡ site }
 {
-    let to = without_site(group, site);
+    let to = group.without_site(site);
     match ruling {
-        Ruling::Attempt(outcome) => {
-            let (state, kind) = match outcome {
-                Outcome::Commit => (State::PreCommitted, Kind::PreCommit),
-                Outcome::Abort => (State::PreAborted, Kind::PreAbort),
-            };
-            let attempt = Attempt {
+        Ruling::Attempt(outcome) => Step {
+            site,
+            own: own.attempted_in(outcome.pre_state()),
+            role: Some(Role::Attempting(Attempt {
                 outcome,
                 group,
-                acked: only(site),
-            };
-            Step {
-                site,
-                own: own.attempted_in(state),
-                role: Some(Role::Attempting(attempt)),
-                kind,
-                to,
-            }
-        }
-        Ruling::Decide(outcome) => {
-            let (state, kind) = match outcome {
-                Outcome::Commit => (State::Committed, Kind::Commit),
-                Outcome::Abort => (State::Aborted, Kind::Abort),
-            };
-            Step {
-                site,
-                own: own.attempted_in(state),
-                role: None,
-                kind,
-                to,
-            }
-        }
+                acked: SiteSet::only(site),
+            })),
+            kind: Kind::of_attempt(outcome),
+            to,
+        },
+        Ruling::Decide(outcome) => Step {
+            site,
+            own: own.attempted_in(outcome.final_state()),
+            role: None,
+            kind: Kind::of_decision(outcome),
+            to,
+        },
     }
 }
 
@@ -184,14 +163,10 @@ pub fn advance<P: Policy>(
     own: Record,
     role: Option<Role>,
 ) -> Result<Step, Refusal>
-    ensures step { planned result ≡ advanced (P.Policy.commits policy.now) (P.Policy.aborts policy.now) all site (plain own) role }
+    ensures step { result ≡ advanced (P.quorums policy.now) all site own role }
     ensures site { IfOk result (λ t. t.site ≡ site) }
 {
-    let Some(role) = role else {
-        return Err(Refusal::Unfit);
-    };
-    match ruling(policy, all, role) {
-        Some(ruling) => Ok(carry_out(ruling, site, group_of(all, role), own)),
-        None => Err(Refusal::Undecided),
-    }
+    let role = role.ok_or(Refusal::Unfit)?;
+    let ruling = ruling(policy, all, &role).ok_or(Refusal::Undecided)?;
+    Ok(carry_out(ruling, site, group_of(all, &role), own))
 }

@@ -3,4 +3,3 @@
 
 pub mod coordinator;
 pub mod member;
-pub mod step;

@@ -1,12 +1,10 @@
 // What the receiver of a message does.
 ghost use Rattle.std.specs.Prelude.{◌≡◌, IfOk};
 ghost use Rattle.rules.specs.Counting.{matches, counts};
-ghost use Rattle.rules.specs.Entries.{plain, join};
+ghost use Rattle.rules.specs.Entries.{join};
 ghost use Rattle.rules.specs.Plans.{voted, received, attempted, concluded, elected_to, tallied, role_after};
 ghost use Rattle.rules.specs.World.{count_answer};
-ghost use Rattle.steps.specs.Steps.{planned};
 
-use crate::step::Step;
 use rules::call::Vote;
 use rules::counting::count;
 use rules::message::{Kind, Message};
@@ -14,28 +12,24 @@ use rules::record::Record;
 use rules::role::Role;
 use rules::rows::Row;
 use rules::state::{Outcome, State};
-use sites::refusal::Refusal;
-use sites::set::only;
+use rules::step::Step;
+use sites::{Refusal, SiteSet};
 
 // Is the receiver at the number of the message, under the coordinator that it is about?
 fn matches(own: Record, message: Message) -> bool
-    ensures { result ≡ matches (plain own) message }
+    ensures { result ≡ matches own message }
 {
-    let coordinator = match message.kind {
-        Kind::Start
-        | Kind::Elected
-        | Kind::PreCommit
-        | Kind::PreAbort
-        | Kind::Commit
-        | Kind::Abort => message.sender,
-        Kind::Yes | Kind::No | Kind::Report { .. } | Kind::Ack => message.receiver,
+    let coordinator = if counts(message.kind) {
+        message.receiver
+    } else {
+        message.sender
     };
     own.elected == message.number && own.lead == coordinator
 }
 
 // The receiver of a start votes.
 pub fn vote(vote: Vote, message: Message, own: Record, role: Option<Role>) -> Result<Step, Refusal>
-    ensures step { planned result ≡ voted vote message (plain own) role }
+    ensures step { result ≡ voted vote message own role }
     ensures site { IfOk result (λ t. t.site ≡ message.receiver) }
 {
     if !matches(own, message) {
@@ -44,37 +38,32 @@ pub fn vote(vote: Vote, message: Message, own: Record, role: Option<Role>) -> Re
     if own.state != State::Initial {
         return Err(Refusal::Unfit);
     }
-    let (state, kind) = match vote {
-        Vote::Yes => (State::Waiting, Kind::Yes),
-        Vote::No => (State::Aborted, Kind::No),
-    };
     Ok(Step {
         site: message.receiver,
-        own: own.in_state(state),
+        own: own.in_state(vote.state()),
         role,
-        kind,
-        to: only(message.sender),
+        kind: Kind::of_vote(vote),
+        to: SiteSet::only(message.sender),
     })
 }
 
 // The receiver goes under a greater number, drops its role and reports.
 fn join(message: Message, own: Record) -> Result<Step, Refusal>
-    ensures step { planned result ≡ elected_to message (plain own) (join (plain own) message.number message.sender) }
+    ensures step { result ≡ elected_to message own (join own message.number message.sender) }
     ensures site { IfOk result (λ t. t.site ≡ message.receiver) }
 {
-    let Some(joined) = own.joined(message.number, message.sender) else {
-        return Err(Refusal::Stale);
-    };
-    let kind = Kind::Report {
-        state: own.state,
-        attempt: own.attempt,
-    };
+    let joined = own
+        .joined(message.number, message.sender)
+        .ok_or(Refusal::Stale)?;
     Ok(Step {
         site: message.receiver,
         own: joined,
         role: None,
-        kind,
-        to: only(message.sender),
+        kind: Kind::Report {
+            state: own.state,
+            attempt: own.attempt,
+        },
+        to: SiteSet::only(message.sender),
     })
 }
 
@@ -85,7 +74,7 @@ fn acknowledge(
     own: Record,
     role: Option<Role>,
 ) -> Result<Step, Refusal>
-    ensures step { planned result ≡ attempted outcome message (plain own) role }
+    ensures step { result ≡ attempted outcome message own role }
     ensures site { IfOk result (λ t. t.site ≡ message.receiver) }
 {
     if !matches(own, message) {
@@ -94,16 +83,12 @@ fn acknowledge(
     if own.state.is_decided() || own.attempt >= message.number {
         return Err(Refusal::Unfit);
     }
-    let state = match outcome {
-        Outcome::Commit => State::PreCommitted,
-        Outcome::Abort => State::PreAborted,
-    };
     Ok(Step {
         site: message.receiver,
-        own: own.attempted_in(state),
+        own: own.attempted_in(outcome.pre_state()),
         role,
         kind: Kind::Ack,
-        to: only(message.sender),
+        to: SiteSet::only(message.sender),
     })
 }
 
@@ -114,7 +99,7 @@ fn conclude(
     own: Record,
     role: Option<Role>,
 ) -> Result<Step, Refusal>
-    ensures step { planned result ≡ concluded outcome message (plain own) role }
+    ensures step { result ≡ concluded outcome message own role }
     ensures site { IfOk result (λ t. t.site ≡ message.receiver) }
 {
     if !matches(own, message) {
@@ -123,22 +108,18 @@ fn conclude(
     if own.state.is_decided() {
         return Err(Refusal::Unfit);
     }
-    let (state, kind) = match outcome {
-        Outcome::Commit => (State::Committed, Kind::Commit),
-        Outcome::Abort => (State::Aborted, Kind::Abort),
-    };
     Ok(Step {
         site: message.receiver,
-        own: own.in_state(state),
+        own: own.in_state(outcome.final_state()),
         role,
-        kind,
-        to: 0,
+        kind: Kind::of_decision(outcome),
+        to: SiteSet::EMPTY,
     })
 }
 
 // The receiver of a message that is not counted takes its step.
 pub fn receive(message: Message, own: Record, role: Option<Role>) -> Result<Step, Refusal>
-    ensures step { planned result ≡ received message.kind message (plain own) role }
+    ensures step { result ≡ received message.kind message own role }
     ensures site { IfOk result (λ t. t.site ≡ message.receiver) }
 {
     match message.kind {
@@ -163,8 +144,8 @@ pub fn counts(kind: Kind) -> bool
 // The receiver of a message that is counted counts it, in place.
 pub fn tally(row: &mut Row, message: Message, own: Record) -> Result<(), Refusal>
     ensures up { row.new.up ≡ row.old.up }
-    ensures role { row.new.role ≡ role_after (tallied message (plain own) row.old.role) row.old.role }
-    ensures answer { result ≡ count_answer (tallied message (plain own) row.old.role) }
+    ensures role { row.new.role ≡ role_after (tallied message own row.old.role) row.old.role }
+    ensures answer { result ≡ count_answer (tallied message own row.old.role) }
 {
     if !matches(own, message) {
         return Err(Refusal::Stale);
