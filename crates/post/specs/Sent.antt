@@ -3,8 +3,13 @@ use Rattle.std.specs.Prelude.{◌≡◌, ℕ, ◌+◌, ◌≤◌, Bool, cond, Li
 use Rattle.sites.specs.Sets.{size}
 use Rattle.sites.specs.declared.refusal.Refusal.{Refusal}
 use Rattle.sites.specs.declared.refusal.Refusal.TheVariants as refusal
-use Rattle.rules.specs.Posting.{written, room}
+use Rattle.rules.specs.Posting.{broadcast, written, room}
 use Rattle.rules.specs.declared.message.Message.{Message}
+use Rattle.post.specs.declared.Broadcast.{Broadcast}
+
+-- the messages of a broadcast
+abbrev pub sent_to_each : Broadcast → List Message
+sent_to_each b = broadcast b.kind b.number b.sender b.to
 
 abbrev pub send_answer : ℕ → ℕ → ℕ → Result ℕ Refusal
 send_answer k n x = cond (room k n x) (Ok (n + size x)) (Err refusal.ListFull)

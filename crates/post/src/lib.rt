@@ -1,77 +1,73 @@
 //! Sending into the caller's message list.
 #![tactic(auto)]
 
-ghost use Rattle.std.specs.Prelude.{◌≡◌, ℕ, ◌+◌, ◌≤◌, length};
-ghost use Rattle.rules.specs.Posting.{broadcast, written, room};
+ghost use Rattle.std.specs.Prelude.{◌≡◌, ◌+◌, ◌≤◌, length};
+ghost use Rattle.rules.specs.Posting.{written, room};
 ghost use Rattle.sites.specs.Sets.{size};
-ghost use Rattle.post.specs.Sent.{send_answer, list_after, WrittenAs};
+ghost use Rattle.post.specs.Sent.{sent_to_each, send_answer, list_after, WrittenAs};
 
 use rules::message::{Kind, Message};
-use sites::refusal::Refusal;
-use sites::set::{has, size};
-use sites::{Site, SiteSet};
+use sites::set::MOST_SITES;
+use sites::{Refusal, Site, SiteSet};
 
 // How many places of a list count.
 pub const LIST_PLACES: usize = 4096;
+
+// One message to each site of a set.
+#[derive(Clone, Copy)]
+pub struct Broadcast {
+    pub kind: Kind,
+    pub number: u32,
+    pub sender: Site,
+    pub to: SiteSet,
+}
 
 // Has a list of that length, of which some places are taken, one more for each site of the set?
 pub fn has_room(places: usize, sent: usize, to: SiteSet) -> bool
     ensures { result ≡ room places sent to }
 {
     let counting = places.min(LIST_PLACES);
-    sent <= counting && size(to) as usize <= counting - sent
+    sent <= counting && to.size() as usize <= counting - sent
 }
 
-// Writes one message to each site of the set from the place `sent` on, and answers the place after them.
-fn write_all(
-    list: &mut [Message],
-    sent: usize,
-    kind: Kind,
-    number: u32,
-    sender: Site,
-    to: SiteSet,
-) -> usize
-    requires { sent + size to ≤ length list.old }
-    ensures list { list.new ≡ written list.old sent (broadcast kind number sender to) }
-    ensures at { result ≡ sent + size to }
-{
-    let mut at = sent;
-    for receiver in 0..16u32 {
-        if has(to, receiver) {
-            list[at] = Message {
-                kind,
-                number,
-                sender,
-                receiver,
-            };
-            at += 1;
+impl Broadcast {
+    // Writes the messages from the place `sent` on, and answers the place after them.
+    //
+    // The place is counted by hand: of a list that is written through an iterator, nothing would be known afterwards.
+    fn write_all(&self, list: &mut [Message], sent: usize) -> usize
+        requires { sent + size self.now.to ≤ length list.old }
+        ensures list { list.new ≡ written list.old sent (sent_to_each self.now) }
+        ensures at { result ≡ sent + size self.now.to }
+    {
+        let mut at = sent;
+        for receiver in 0..MOST_SITES {
+            if self.to.has(receiver) {
+                list[at] = Message {
+                    kind: self.kind,
+                    number: self.number,
+                    sender: self.sender,
+                    receiver,
+                };
+                at += 1;
+            }
         }
+        at
     }
-    at
-}
 
-// Sends one message to each site of the set, in rising order, from the place `sent` on; the answer is how many
-// messages the list has then.
-pub fn send(
-    list: &mut [Message],
-    sent: usize,
-    kind: Kind,
-    number: u32,
-    sender: Site,
-    to: SiteSet,
-) -> Result<usize, Refusal>
-    ensures answer { result ≡ send_answer (length list.old) sent to }
-    ensures list { list.new ≡ list_after (room (length list.old) sent to) list.old sent (broadcast kind number sender to) }
-{
-    if !has_room(list.len(), sent, to) {
-        return Err(Refusal::ListFull);
+    // Sends the messages, in rising order of their receivers, from the place `sent` on; the answer is how many
+    // messages the list has then.
+    pub fn send(&self, list: &mut [Message], sent: usize) -> Result<usize, Refusal>
+        ensures answer { result ≡ send_answer (length list.old) sent self.now.to }
+        ensures list { list.new ≡ list_after (room (length list.old) sent self.now.to) list.old sent (sent_to_each self.now) }
+    {
+        if !has_room(list.len(), sent, self.to) {
+            return Err(Refusal::ListFull);
+        }
+        Ok(self.write_all(list, sent))
     }
-    Ok(write_all(list, sent, kind, number, sender, to))
 }
 
 // What writing means: earlier places stay, then stand the new messages, and later places stay.
-pub fn written_as() -> u8
+pub fn written_as()
     ensures { WrittenAs }
-{
-    0
-}
+{}

@@ -2,7 +2,7 @@ use Rattle.std.proofs.Common.{◌≡◌, arith, rules}
 use Rattle.std.proofs.lemmas.List.{length_push}
 use Rattle.post.proofs.Sizes.{below_none, below_sent, below_kept, length_broadcast, room_for}
 use Rattle.post.proofs.Writing.{written_more, length_written}
-use Rattle.post.proofs.write_all.Goals as goal
+use Rattle.post.proofs.Broadcast.write_all.Goals as goal
 
 pub loop-receiver-init : goal.loop-receiver-init
 loop-receiver-init c = search (rules, below_none)
@@ -24,5 +24,5 @@ returns c =
     let all : c.loop-receiver.receiver ≡ 16 = omega arith in
     let list = rw all at c.loop-receiver.invariant.0 in
     let at = rw all at c.loop-receiver.invariant.1 in
-    let size = length_broadcast c.args.kind c.args.number c.args.sender c.args.to in
+    let size = length_broadcast c.args.self.now.kind c.args.self.now.number c.args.self.now.sender c.args.self.now.to in
     record { list = list; at = omega (arith, at, size) }
