@@ -1,29 +1,24 @@
 -- What the steps inside of a call rely on.
-use Rattle.std.specs.Prelude.{◌≡◌, ℕ, ◌+◌, ◌<◌, ◌≤◌}
+use Rattle.std.specs.Prelude.{ℕ, ◌+◌, ◌<◌, ◌≤◌}
 use Rattle.sites.specs.Sets.{size}
-use Rattle.rules.specs.Plans.{Plan}
 use Rattle.rules.specs.Posting.{places}
-use Rattle.rules.specs.World.{World, write_price}
-use Rattle.rules.specs.declared.rows.Core.{Core}
+use Rattle.rules.specs.World.{World, Stored, write_price}
+use Rattle.rules.specs.declared.step.Step.{Step}
 
-pub record Bounded (c : Core) : Type 0 where
-  pub few : c.sites ≤ 16
-  pub led : c.first < c.sites
-  pub short : c.sent ≤ 4096
-
--- the sites and the first coordinator stay, and so do the bounds
-pub record Lasting (c c' : Core) : Type 0 where
-  pub sites : c'.sites ≡ c.sites
-  pub first : c'.first ≡ c.first
-  pub short : c'.sent ≤ 4096
+-- a net of n sites, of which f is one, that has sent k messages
+pub record Bounded (n f k : ℕ) : Type 0 where
+  pub several : 2 ≤ n
+  pub few : n ≤ 16
+  pub led : f < n
+  pub short : k ≤ 4096
 
 -- the site is known to net and vault
 pub record Near (n s : ℕ) : Type 0 where
   pub kept : s < n
   pub known : s < 16
 
--- what an admitted step can count on: n sites and l left in the vault
-pub record Within (w : World) (n l : ℕ) (p : Plan) : Type 0 where
-  pub near : Near n p.site
+-- what an admitted step can count on
+pub record Within (w : World) (v : Stored) (p : Step) : Type 0 where
+  pub near : Near v.sites p.site
   pub room : w.net.sent + size p.to ≤ places w.messages
-  pub left : write_price ≤ l
+  pub left : write_price ≤ v.left

@@ -1,16 +1,10 @@
--- A net by its plain part, and the new one.
+-- The new net.
 use Rattle.std.specs.Prelude.{ℕ, cond, Ok, Err, Result}
 use Rattle.sites.specs.Sets.{seated}
 use Rattle.sites.specs.declared.refusal.Refusal.{Refusal}
 use Rattle.sites.specs.declared.refusal.Refusal.TheVariants as refusal
-use Rattle.rules.specs.World.{fresh}
-use Rattle.rules.specs.declared.rows.Core.{Core}
-use Rattle.net.specs.declared.net.Net.{Net}
+use Rattle.rules.specs.World.{Core, fresh}
 
 -- a net is opened for 2 to 16 sites, of which f is one
 abbrev pub opening : ℕ → ℕ → Result Core Refusal
 opening n f = cond (seated n f) (Ok (fresh n f)) (Err refusal.SiteCount)
-
-abbrev pub opened : Result Net Refusal → Result Core Refusal
-opened (Ok n) = Ok n.core
-opened (Err x) = Err x

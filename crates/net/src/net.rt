@@ -1,15 +1,30 @@
-ghost use Rattle.std.specs.Prelude.{ℕ, ◌<◌, ◌≤◌};
+mod calls;
+mod carrying;
+mod delivering;
+mod finding;
 
-mod api;
-
-use rules::rows::Core;
+use rules::rows::Rows;
+use sites::Site;
+use std::marker::Model;
 
 // The sites of one approval, between their vault and their message list.
 #[derive(Drop)]
 pub struct Net {
-    core: Core,
-    ghost several: { 2 ≤ core.sites },
-    ghost few: { core.sites ≤ 16 },
-    ghost led: { core.first < core.sites },
-    ghost short: { core.sent ≤ 4096 },
+    sites: u32,
+    // The first coordinator.
+    first: Site,
+    // How many messages were sent.
+    sent: usize,
+    rows: Rows,
+}
+
+impl Model for Net {
+    ghost use Rattle.rules.specs.World.{Core};
+    ghost use Rattle.net.specs.Bounds.{Bounded};
+
+    ghost Value = { Core };
+
+    ghost view = { λ n. record { sites = n.sites; first = n.first; sent = n.sent; rows = n.rows } };
+
+    ghost invariant = { λ n. Bounded n.sites n.first n.sent };
 }

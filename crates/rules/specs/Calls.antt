@@ -1,12 +1,12 @@
 -- What each call does, with its refusals in their order.
-use Rattle.std.specs.Prelude.{ℕ, Bool, true, false, cond, ◌&&◌, length, Ok, Err, Result, ◌==◌, nat_le, nat_lt, slice_index_or}
+use Rattle.std.specs.Prelude.{ℕ, Bool, true, false, cond, ◌&&◌, List, length, Ok, Err, Result, ◌==◌, nat_le, nat_lt, slice_index_or}
 use Rattle.sites.specs.Sets.{everyone}
 use Rattle.sites.specs.declared.refusal.Refusal.{Refusal}
 use Rattle.sites.specs.declared.refusal.Refusal.TheVariants as refusal
 use Rattle.quorum.specs.Quorums.{Quorums}
 use Rattle.rules.specs.Counting.{counts}
 use Rattle.rules.specs.Plans.{begun, voted, received, tallied, advanced}
-use Rattle.rules.specs.World.{World, Stored, no_message, row_at, entry_at, admitted, answer_of, after_of, count_answer, count_after, accepted}
+use Rattle.rules.specs.World.{World, Core, Stored, Left, world_with, no_message, row_at, entry_at, admitted, answer_of, after_of, count_answer, count_after, accepted}
 use Rattle.rules.specs.declared.call.Call.{Call}
 use Rattle.rules.specs.declared.call.Call.TheVariants as call
 use Rattle.rules.specs.declared.call.Vote.{Vote}
@@ -145,3 +145,14 @@ writes t w (call.Begin v) = accepted (answer_of (admitted t.left w (asked_begin 
 writes t w (call.Vote k v) = accepted (answer_of (admitted t.left w (asked_vote t w k v)))
 writes t w (call.Deliver k) = delivery_writes t.left w (to_deliver_at t w k)
 writes t w (call.Advance s) = accepted (answer_of (admitted t.left w (asked_advance t w s)))
+
+-- the same, by what the policy means, what the vault holds, the net and the list of messages
+abbrev pub answers : Quorums → Stored → Core → List Message → Call → Result (Unit {0}) Refusal
+answers q v c ms x = answer (terms q v) (world_with c v ms) x
+
+abbrev pub leaves : Quorums → Stored → Core → List Message → Call → World
+leaves q v c ms x = after (terms q v) (world_with c v ms) x
+
+-- with l left in the vault then: at most one less where a record was written, and else the same
+abbrev pub Spends : Quorums → Stored → Core → List Message → Call → ℕ → Type 0
+Spends q v c ms x l = Left (writes (terms q v) (world_with c v ms) x) v.left l

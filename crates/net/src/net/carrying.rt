@@ -1,0 +1,98 @@
+// From what a site is to do to what was done.
+ghost use Rattle.std.specs.Prelude.{◌≡◌, ◌<◌, true, IfOk};
+ghost use Rattle.rules.specs.World.{world_with, with_rows, with_role, admitted, applied, answer_of, after_of, accepted, Left};
+ghost use Rattle.net.specs.Bounds.{Near, Within};
+
+use super::Net;
+use post::{Broadcast, has_room};
+use rules::message::Message;
+use rules::role::Role;
+use rules::rows::Row;
+use rules::step::Step;
+use sites::{Refusal, Site};
+use vault::Vault;
+
+// What one write may cost a vault.
+const WRITE_PRICE: u32 = 1;
+
+// The site of the row has another role now.
+fn take_role(row: &mut Row, role: Option<Role>)
+    ensures up { row.new.up ≡ row.old.up }
+    ensures role { row.new.role ≡ role }
+{
+    row.role = role;
+}
+
+impl Net {
+    // A step is admitted if the list has places for its messages and the vault something left for its write.
+    fn admit<V: Vault>(
+        &self,
+        vault: &V,
+        list: &[Message],
+        asked: Result<Step, Refusal>,
+    ) -> Result<Step, Refusal>
+        requires { IfOk asked (λ t. Near (V.stored vault.now).sites t.site) }
+        ensures is { result ≡ admitted (V.stored vault.now).left (world_with self.now (V.stored vault.now) list.now) asked }
+        ensures within { IfOk result (λ t. Within (world_with self.now (V.stored vault.now) list.now) (V.stored vault.now) t) }
+    {
+        let step = asked?;
+        if !has_room(list.len(), self.sent, step.to) {
+            return Err(Refusal::ListFull);
+        }
+        if vault.left() < WRITE_PRICE {
+            return Err(Refusal::VaultFull);
+        }
+        Ok(step)
+    }
+
+    // The row of a site is lent for its new role.
+    fn set_role(&mut self, site: Site, role: Option<Role>)
+        requires { site < 16 }
+        ensures { self.new ≡ with_rows self.old self.old.sent (with_role self.old site role) }
+    {
+        take_role(&mut self.rows.row[site as usize], role);
+    }
+
+    // An admitted step is made: nothing in here is refused.
+    fn apply<V: Vault>(&mut self, vault: &mut V, list: &mut [Message], step: Step)
+        requires { Within (world_with self.old (V.stored vault.old) list.old) (V.stored vault.old) step }
+        ensures net { self.new ≡ (applied (world_with self.old (V.stored vault.old) list.old) step).net }
+        ensures entries { (V.stored vault.new).entries ≡ (applied (world_with self.old (V.stored vault.old) list.old) step).entries }
+        ensures list { list.new ≡ (applied (world_with self.old (V.stored vault.old) list.old) step).messages }
+        ensures sites { (V.stored vault.new).sites ≡ (V.stored vault.old).sites }
+        ensures left { Left true (V.stored vault.old).left (V.stored vault.new).left }
+        ensures tied { V.tied vault.old vault.new }
+    {
+        let _ = vault.write(step.site, step.own);
+        self.set_role(step.site, step.role);
+        let broadcast = Broadcast {
+            kind: step.kind,
+            number: step.own.elected,
+            sender: step.site,
+            to: step.to,
+        };
+        let _ = broadcast.send(list, self.sent);
+        self.sent += step.to.size() as usize;
+    }
+
+    // What was asked for is done if there is room for it.
+    pub(super) fn carry<V: Vault>(
+        &mut self,
+        vault: &mut V,
+        list: &mut [Message],
+        asked: Result<Step, Refusal>,
+    ) -> Result<(), Refusal>
+        requires { IfOk asked (λ t. Near (V.stored vault.old).sites t.site) }
+        ensures answer { result ≡ answer_of (admitted (V.stored vault.old).left (world_with self.old (V.stored vault.old) list.old) asked) }
+        ensures net { self.new ≡ (after_of (world_with self.old (V.stored vault.old) list.old) (admitted (V.stored vault.old).left (world_with self.old (V.stored vault.old) list.old) asked)).net }
+        ensures entries { (V.stored vault.new).entries ≡ (after_of (world_with self.old (V.stored vault.old) list.old) (admitted (V.stored vault.old).left (world_with self.old (V.stored vault.old) list.old) asked)).entries }
+        ensures list { list.new ≡ (after_of (world_with self.old (V.stored vault.old) list.old) (admitted (V.stored vault.old).left (world_with self.old (V.stored vault.old) list.old) asked)).messages }
+        ensures sites { (V.stored vault.new).sites ≡ (V.stored vault.old).sites }
+        ensures left { Left (accepted result) (V.stored vault.old).left (V.stored vault.new).left }
+        ensures tied { V.tied vault.old vault.new }
+    {
+        let step = self.admit(vault, list, asked)?;
+        self.apply(vault, list, step);
+        Ok(())
+    }
+}

@@ -1,0 +1,79 @@
+// A delivery: a message is counted in place, or makes its receiver take a step.
+ghost use Rattle.std.specs.Prelude.{◌≡◌, ◌<◌, Ok, slice_index_or};
+ghost use Rattle.rules.specs.Calls.{delivery_answer, delivery_after, delivery_writes, receipt_of};
+ghost use Rattle.rules.specs.Plans.{tallied, role_after};
+ghost use Rattle.rules.specs.World.{world_with, row_at, no_entry, with_rows, with_role, count_answer, count_net, admitted, answer_of, after_of, accepted, Left};
+ghost use Rattle.net.specs.Bounds.{Near};
+
+use super::Net;
+use super::finding::record_of;
+use rules::message::Message;
+use rules::record::Record;
+use sites::Refusal;
+use steps::member;
+use vault::Vault;
+
+impl Net {
+    // Counts a message in the row of its receiver.
+    fn count_row(&mut self, message: Message, own: Record) -> Result<(), Refusal>
+        requires { message.receiver < 16 }
+        ensures answer { result ≡ count_answer (tallied message own (row_at self.old message.receiver).role) }
+        ensures net { self.new ≡ with_rows self.old self.old.sent (with_role self.old message.receiver (role_after (tallied message own (row_at self.old message.receiver).role) (row_at self.old message.receiver).role)) }
+    {
+        member::tally(&mut self.rows.row[message.receiver as usize], message, own)
+    }
+
+    // Counts a message at its receiver.
+    fn count_message<V: Vault>(&mut self, vault: &V, message: Message) -> Result<(), Refusal>
+        requires { Near (V.stored vault.now).sites message.receiver }
+        ensures answer { result ≡ count_answer (tallied message (slice_index_or (V.stored vault.now).entries message.receiver no_entry) (row_at self.old message.receiver).role) }
+        ensures net { self.new ≡ count_net self.old message.receiver (tallied message (slice_index_or (V.stored vault.now).entries message.receiver no_entry) (row_at self.old message.receiver).role) }
+    {
+        let own = record_of(vault, message.receiver);
+        self.count_row(message, own)
+    }
+
+    // The receiver of a message takes its step.
+    fn step_message<V: Vault>(
+        &mut self,
+        vault: &mut V,
+        list: &mut [Message],
+        message: Message,
+    ) -> Result<(), Refusal>
+        requires { Near (V.stored vault.old).sites message.receiver }
+        ensures answer { result ≡ answer_of (admitted (V.stored vault.old).left (world_with self.old (V.stored vault.old) list.old) (receipt_of (world_with self.old (V.stored vault.old) list.old) message)) }
+        ensures net { self.new ≡ (after_of (world_with self.old (V.stored vault.old) list.old) (admitted (V.stored vault.old).left (world_with self.old (V.stored vault.old) list.old) (receipt_of (world_with self.old (V.stored vault.old) list.old) message))).net }
+        ensures entries { (V.stored vault.new).entries ≡ (after_of (world_with self.old (V.stored vault.old) list.old) (admitted (V.stored vault.old).left (world_with self.old (V.stored vault.old) list.old) (receipt_of (world_with self.old (V.stored vault.old) list.old) message))).entries }
+        ensures list { list.new ≡ (after_of (world_with self.old (V.stored vault.old) list.old) (admitted (V.stored vault.old).left (world_with self.old (V.stored vault.old) list.old) (receipt_of (world_with self.old (V.stored vault.old) list.old) message))).messages }
+        ensures sites { (V.stored vault.new).sites ≡ (V.stored vault.old).sites }
+        ensures left { Left (accepted result) (V.stored vault.old).left (V.stored vault.new).left }
+        ensures tied { V.tied vault.old vault.new }
+    {
+        let own = record_of(vault, message.receiver);
+        let role = self.row(message.receiver).role;
+        self.carry(vault, list, member::receive(message, own, role))
+    }
+
+    // What a message does at its receiver.
+    pub(super) fn act_on<V: Vault>(
+        &mut self,
+        vault: &mut V,
+        list: &mut [Message],
+        message: Message,
+    ) -> Result<(), Refusal>
+        requires { Near (V.stored vault.old).sites message.receiver }
+        ensures answer { result ≡ delivery_answer (V.stored vault.old).left (world_with self.old (V.stored vault.old) list.old) (Ok message) }
+        ensures net { self.new ≡ (delivery_after (V.stored vault.old).left (world_with self.old (V.stored vault.old) list.old) (Ok message)).net }
+        ensures entries { (V.stored vault.new).entries ≡ (delivery_after (V.stored vault.old).left (world_with self.old (V.stored vault.old) list.old) (Ok message)).entries }
+        ensures list { list.new ≡ (delivery_after (V.stored vault.old).left (world_with self.old (V.stored vault.old) list.old) (Ok message)).messages }
+        ensures sites { (V.stored vault.new).sites ≡ (V.stored vault.old).sites }
+        ensures left { Left (delivery_writes (V.stored vault.old).left (world_with self.old (V.stored vault.old) list.old) (Ok message)) (V.stored vault.old).left (V.stored vault.new).left }
+        ensures tied { V.tied vault.old vault.new }
+    {
+        if member::counts(message.kind) {
+            self.count_message(vault, message)
+        } else {
+            self.step_message(vault, list, message)
+        }
+    }
+}

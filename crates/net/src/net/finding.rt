@@ -1,0 +1,176 @@
+// What a call finds: all checks but those for room.
+ghost use Rattle.std.specs.Prelude.{◌≡◌, ◌<◌, nat_lt, ◌≤◌, if◌then◌else◌, Ok, Err, IfOk, slice_index_or};
+ghost use Rattle.sites.specs.declared.refusal.Refusal.TheVariants.{WrongPower, UnknownSite};
+ghost use Rattle.rules.specs.Calls.{terms, fitting, asked_begin, asked_vote, asked_advance, found, to_deliver_at, sound};
+ghost use Rattle.rules.specs.World.{world_with, row_at, no_entry};
+ghost use Rattle.net.specs.Bounds.{Near};
+
+use super::Net;
+use quorum::Policy;
+use rules::call::Vote;
+use rules::message::{Kind, Message};
+use rules::record::Record;
+use rules::records::MOST_NUMBER;
+use rules::rows::Row;
+use rules::step::Step;
+use sites::{Refusal, Site, SiteSet};
+use steps::{coordinator, member};
+use vault::Vault;
+
+// The record of a site that the vault has.
+pub(super) fn record_of<V: Vault>(vault: &V, site: Site) -> Record
+    requires { site < (V.stored vault.now).sites }
+    ensures { result ≡ slice_index_or (V.stored vault.now).entries site no_entry }
+{
+    vault.read(site).unwrap_or(Record::blank())
+}
+
+impl Net {
+    // Do policy, vault and list fit the net?
+    fn fits<P: Policy, V: Vault>(&self, policy: &P, vault: &V, list: &[Message]) -> bool
+        ensures { result ≡ fitting (terms (P.quorums policy.now) (V.stored vault.now)) (world_with self.now (V.stored vault.now) list.now) }
+    {
+        policy.sites() == self.sites && vault.sites() == self.sites && self.sent <= list.len()
+    }
+
+    // The row of a site.
+    pub(super) fn row(&self, site: Site) -> Row
+        requires { site < 16 }
+        ensures { result ≡ row_at self.now site }
+    {
+        self.rows.row[site as usize]
+    }
+
+    // The row of a site that has to be known.
+    pub(super) fn known_row(&self, site: Site) -> Result<Row, Refusal>
+        ensures { result ≡ (if nat_lt site self.now.sites then Ok (row_at self.now site) else Err UnknownSite) }
+    {
+        if site >= self.sites {
+            return Err(Refusal::UnknownSite);
+        }
+        Ok(self.row(site))
+    }
+
+    // The row of a site that has to be up.
+    fn row_up(&self, site: Site) -> Result<Row, Refusal>
+        requires { site < 16 }
+        ensures { result ≡ (if (row_at self.now site).up then Ok (row_at self.now site) else Err WrongPower) }
+    {
+        let row = self.row(site);
+        if !row.up {
+            return Err(Refusal::WrongPower);
+        }
+        Ok(row)
+    }
+
+    // What begin asks of the first coordinator.
+    pub(super) fn find_begin<P: Policy, V: Vault>(
+        &self,
+        policy: &P,
+        vault: &V,
+        list: &[Message],
+        vote: Vote,
+    ) -> Result<Step, Refusal>
+        ensures is { result ≡ asked_begin (terms (P.quorums policy.now) (V.stored vault.now)) (world_with self.now (V.stored vault.now) list.now) vote }
+        ensures near { IfOk result (λ t. Near (V.stored vault.now).sites t.site) }
+    {
+        if !self.fits(policy, vault, list) {
+            return Err(Refusal::Mismatch);
+        }
+        let first = self.first;
+        let row = self.row_up(first)?;
+        let own = record_of(vault, first);
+        coordinator::begin(vote, first, SiteSet::everyone(self.sites), own, row.role)
+    }
+
+    // What advance asks of a coordinator.
+    pub(super) fn find_advance<P: Policy, V: Vault>(
+        &self,
+        policy: &P,
+        vault: &V,
+        list: &[Message],
+        site: Site,
+    ) -> Result<Step, Refusal>
+        ensures is { result ≡ asked_advance (terms (P.quorums policy.now) (V.stored vault.now)) (world_with self.now (V.stored vault.now) list.now) site }
+        ensures near { IfOk result (λ t. Near (V.stored vault.now).sites t.site) }
+    {
+        if !self.fits(policy, vault, list) {
+            return Err(Refusal::Mismatch);
+        }
+        let row = self.known_row(site)?;
+        if !row.up {
+            return Err(Refusal::WrongPower);
+        }
+        let own = record_of(vault, site);
+        coordinator::advance(policy, SiteSet::everyone(self.sites), site, own, row.role)
+    }
+
+    // The message at a place.
+    fn find<P: Policy, V: Vault>(
+        &self,
+        policy: &P,
+        vault: &V,
+        list: &[Message],
+        place: u32,
+    ) -> Result<Message, Refusal>
+        ensures is { result ≡ found (terms (P.quorums policy.now) (V.stored vault.now)) (world_with self.now (V.stored vault.now) list.now) place }
+        ensures near { IfOk result (λ m. Near (V.stored vault.now).sites m.receiver) }
+    {
+        if !self.fits(policy, vault, list) {
+            return Err(Refusal::Mismatch);
+        }
+        if place as usize >= self.sent {
+            return Err(Refusal::NoMessage);
+        }
+        let message = list[place as usize];
+        if message.sender < self.sites
+            && message.receiver < self.sites
+            && 0 < message.number
+            && message.number <= MOST_NUMBER
+        {
+            Ok(message)
+        } else {
+            Err(Refusal::NoMessage)
+        }
+    }
+
+    // The message at a place that is no start, if its receiver is up.
+    pub(super) fn find_message<P: Policy, V: Vault>(
+        &self,
+        policy: &P,
+        vault: &V,
+        list: &[Message],
+        place: u32,
+    ) -> Result<Message, Refusal>
+        ensures is { result ≡ to_deliver_at (terms (P.quorums policy.now) (V.stored vault.now)) (world_with self.now (V.stored vault.now) list.now) place }
+        ensures near { IfOk result (λ m. Near (V.stored vault.now).sites m.receiver) }
+    {
+        let message = self.find(policy, vault, list, place)?;
+        if matches!(message.kind, Kind::Start) {
+            return Err(Refusal::WrongKind);
+        }
+        self.row_up(message.receiver)?;
+        Ok(message)
+    }
+
+    // What a vote asks of the receiver of a start.
+    pub(super) fn find_vote<P: Policy, V: Vault>(
+        &self,
+        policy: &P,
+        vault: &V,
+        list: &[Message],
+        place: u32,
+        vote: Vote,
+    ) -> Result<Step, Refusal>
+        ensures is { result ≡ asked_vote (terms (P.quorums policy.now) (V.stored vault.now)) (world_with self.now (V.stored vault.now) list.now) place vote }
+        ensures near { IfOk result (λ t. Near (V.stored vault.now).sites t.site) }
+    {
+        let message = self.find(policy, vault, list, place)?;
+        if !matches!(message.kind, Kind::Start) {
+            return Err(Refusal::WrongKind);
+        }
+        let row = self.row_up(message.receiver)?;
+        let own = record_of(vault, message.receiver);
+        member::vote(vote, message, own, row.role)
+    }
+}
