@@ -4,9 +4,10 @@ use Rattle.std.proofs.lemmas.Bool.{true≢false, not-false, and_parts, ltb-true,
 use Rattle.sites.proofs.Marks.{has_none}
 use Rattle.sites.specs.Sets.{has}
 use Rattle.sites.specs.declared.refusal.Refusal.TheVariants as refusal
+use Rattle.quorum.specs.Quorums.{Quorums}
 use Rattle.rules.specs.Counting.{matches, is_initial, coordinator, counted_by, counted}
 use Rattle.rules.specs.Entries.{Entry, decided, joined, can_join, join, pre_state}
-use Rattle.rules.specs.Plans.{Plan, begin_plan, begun, voted, elected_to, attempted, concluded, received, count_of, tallied, ruling_of, group_of, ruled, advanced}
+use Rattle.rules.specs.Plans.{begin_step, begun, voted, elected_to, attempted, concluded, received, count_of, tallied, ruling_of, group_of, ruled, advanced}
 use Rattle.rules.specs.declared.call.Vote.{Vote}
 use Rattle.rules.specs.declared.call.Vote.TheVariants as vote
 use Rattle.rules.specs.declared.message.Kind.{Kind}
@@ -18,6 +19,7 @@ use Rattle.rules.specs.declared.role.Ruling.{Ruling}
 use Rattle.rules.specs.declared.role.Ruling.TheVariants as ruling
 use Rattle.rules.specs.declared.state.Outcome.{Outcome}
 use Rattle.rules.specs.declared.state.Outcome.TheVariants as outcome
+use Rattle.rules.specs.declared.step.Step.{Step}
 use Rattle.laws.specs.Laws.{RoleAgrees}
 use Rattle.laws.proofs.Apart.{Apart, without_itself, only_other}
 use Rattle.laws.proofs.Held.{Held, held_unless}
@@ -38,8 +40,8 @@ pub record Under (f : ℕ) (e : Entry) : Type 0 where
   pub numbered : 0 < e.elected
   pub led : e.elected ≤ 1 → e.lead ≡ f
 
--- the plan is for the site s with the record e, keeps all this, and sends nothing to s
-pub record KeptBy (f s : ℕ) (e : Entry) (p : Plan) : Type 0 where
+-- the step is for the site s with the record e, keeps all this, and sends nothing to s
+pub record KeptBy (f s : ℕ) (e : Entry) (p : Step) : Type 0 where
   pub own_site : p.site ≡ s
   pub leads : Leads s p.own p.role
   pub under : Under f e → Under f p.own
@@ -56,7 +58,7 @@ initial_roleless s e e' r i = roleless s e e' r (λ l. true≢false (sym (not-fa
 under_same : (f : ℕ) (e e' : Entry) → e'.elected ≡ e.elected → e'.lead ≡ e.lead → Under f e → Under f e'
 under_same f e e' n a u = record { numbered = rw n u.numbered; led = λ h. a ∙ u.led (rw n at h) }
 
-begin_keeps : (v : Vote) (s all : ℕ) (e : Entry) (r : Option Role) → e.lead ≡ s → not (is_initial e.state) ≡ false → Leads s e r → KeptBy s s e (begin_plan v s all e r)
+begin_keeps : (v : Vote) (s all : ℕ) (e : Entry) (r : Option Role) → e.lead ≡ s → not (is_initial e.state) ≡ false → Leads s e r → KeptBy s s e (begin_step v s all e r)
 begin_keeps vote.Yes s all e r h i l = record {
   own_site = refl;
   leads = record { itself = h; undecided = refl; has_voted = refl };
@@ -179,9 +181,9 @@ ruled_keeps f s g e (Some (ruling.Decide o)) l = record {
   others = without_itself g s;
 }
 
-pub advanced_keeps : (f : ℕ) (commits aborts : ℕ → Bool) (all s : ℕ) (e : Entry) (r : Option Role) → Leads s e r → Held (KeptBy f s e) (advanced commits aborts all s e r)
-advanced_keeps f commits aborts all s e None l = tt
-advanced_keeps f commits aborts all s e (Some r) l = ruled_keeps f s (group_of all r) e (ruling_of commits aborts all r) l
+pub advanced_keeps : (f : ℕ) (q : Quorums) (all s : ℕ) (e : Entry) (r : Option Role) → Leads s e r → Held (KeptBy f s e) (advanced q all s e r)
+advanced_keeps f q all s e None l = tt
+advanced_keeps f q all s e (Some r) l = ruled_keeps f s (group_of all r) e (ruling_of q all r) l
 
 -- an undecided coordinator agrees with its role
 pub leads_agrees : (s : ℕ) (e : Entry) (r : Option Role) → Leads s e r → RoleAgrees e r

@@ -4,7 +4,7 @@ use Rattle.std.proofs.lemmas.List.{take-set-le}
 use Rattle.sites.specs.declared.refusal.Refusal.{Refusal}
 use Rattle.rules.specs.Calls.{asked_begin, asked_vote, asked_advance, to_deliver_at, delivery_after, tally_of, receipt_of}
 use Rattle.rules.specs.Counting.{counts}
-use Rattle.rules.specs.Plans.{Plan}
+use Rattle.rules.specs.declared.step.Step.{Step}
 use Rattle.rules.specs.Posting.{broadcast, written}
 use Rattle.rules.specs.World.{World, applied, admitted, after_of, count_after}
 use Rattle.rules.specs.declared.call.Call.TheVariants as call
@@ -21,7 +21,7 @@ take_written n xs i (m ∷ new) h = take_written n (set xs i m) (i + 1) new (ome
 same_grown : (w : World) → Grown w w
 same_grown w = record { more = le_refl w.net.sent; kept = refl; sized = refl; within = λ h. h }
 
-applied_grown : (w : World) (p : Plan) → Roomy w p → Grown w (applied w p)
+applied_grown : (w : World) (p : Step) → Roomy w p → Grown w (applied w p)
 applied_grown w p h =
     let new = broadcast p.kind p.own.elected p.site p.to in
     let len = length_written w.messages w.net.sent new in
@@ -32,11 +32,11 @@ applied_grown w p h =
       within = λ k. rw len h;
     }
 
-plan_grown : (w : World) (x : Result Plan Refusal) → Held (Roomy w) x → Grown w (after_of w x)
+plan_grown : (w : World) (x : Result Step Refusal) → Held (Roomy w) x → Grown w (after_of w x)
 plan_grown w (Ok p) h = applied_grown w p h
 plan_grown w (Err r) h = same_grown w
 
-admitted_grown : (l : ℕ) (w : World) (x : Result Plan Refusal) → Grown w (after_of w (admitted l w x))
+admitted_grown : (l : ℕ) (w : World) (x : Result Step Refusal) → Grown w (after_of w (admitted l w x))
 admitted_grown l w x = plan_grown w (admitted l w x) (admitted_roomy l w x)
 
 count_grown : (w : World) (s : ℕ) (x : Result Role Refusal) → Grown w (count_after w s x)
@@ -53,7 +53,7 @@ delivery_grown l w (Ok m) =
 delivery_grown l w (Err r) = same_grown w
 
 pub lists_only_grow : ListsOnlyGrow
-lists_only_grow commits aborts p n l w (call.Begin v) = admitted_grown l w (asked_begin p n w v)
-lists_only_grow commits aborts p n l w (call.Vote k v) = admitted_grown l w (asked_vote p n w k v)
-lists_only_grow commits aborts p n l w (call.Deliver k) = delivery_grown l w (to_deliver_at p n w k)
-lists_only_grow commits aborts p n l w (call.Advance s) = admitted_grown l w (asked_advance commits aborts p n w s)
+lists_only_grow t w (call.Begin v) = admitted_grown t.left w (asked_begin t w v)
+lists_only_grow t w (call.Vote k v) = admitted_grown t.left w (asked_vote t w k v)
+lists_only_grow t w (call.Deliver k) = delivery_grown t.left w (to_deliver_at t w k)
+lists_only_grow t w (call.Advance s) = admitted_grown t.left w (asked_advance t w s)

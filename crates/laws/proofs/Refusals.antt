@@ -3,14 +3,14 @@ use Rattle.std.proofs.Common.{◌≡◌, ℕ, Bool, true, false, cond, Ok, Err, 
 use Rattle.sites.specs.declared.refusal.Refusal.{Refusal}
 use Rattle.rules.specs.Calls.{asked_begin, asked_vote, asked_advance, to_deliver_at, delivery_answer, delivery_after, tally_of, receipt_of}
 use Rattle.rules.specs.Counting.{counts}
-use Rattle.rules.specs.Plans.{Plan}
+use Rattle.rules.specs.declared.step.Step.{Step}
 use Rattle.rules.specs.World.{World, admitted, answer_of, after_of, count_answer, count_after}
 use Rattle.rules.specs.declared.call.Call.TheVariants as call
 use Rattle.rules.specs.declared.message.Message.{Message}
 use Rattle.rules.specs.declared.role.Role.{Role}
 use Rattle.laws.specs.Laws.{SameIfRefused, RefusalsChangeNothing}
 
-plan_refused : (w : World) (x : Result Plan Refusal) → SameIfRefused (answer_of x) w (after_of w x)
+plan_refused : (w : World) (x : Result Step Refusal) → SameIfRefused (answer_of x) w (after_of w x)
 plan_refused w (Ok p) r h = let z : ◌≡◌ {A = ℕ} 0 1 = cc in absurd (omega arith)
 plan_refused w (Err q) r h = refl
 
@@ -30,7 +30,7 @@ delivery_refused l w (Ok m) =
 delivery_refused l w (Err q) = λ r h. refl
 
 pub refusals_change_nothing : RefusalsChangeNothing
-refusals_change_nothing commits aborts p n l w (call.Begin v) = plan_refused w (admitted l w (asked_begin p n w v))
-refusals_change_nothing commits aborts p n l w (call.Vote k v) = plan_refused w (admitted l w (asked_vote p n w k v))
-refusals_change_nothing commits aborts p n l w (call.Deliver k) = delivery_refused l w (to_deliver_at p n w k)
-refusals_change_nothing commits aborts p n l w (call.Advance s) = plan_refused w (admitted l w (asked_advance commits aborts p n w s))
+refusals_change_nothing t w (call.Begin v) = plan_refused w (admitted t.left w (asked_begin t w v))
+refusals_change_nothing t w (call.Vote k v) = plan_refused w (admitted t.left w (asked_vote t w k v))
+refusals_change_nothing t w (call.Deliver k) = delivery_refused t.left w (to_deliver_at t w k)
+refusals_change_nothing t w (call.Advance s) = plan_refused w (admitted t.left w (asked_advance t w s))

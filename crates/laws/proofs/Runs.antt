@@ -5,10 +5,11 @@ use Rattle.std.proofs.lemmas.List.{get_or-set_same, get_or-set_other, get_or_pas
 use Rattle.std.proofs.lemmas.Bool.{and_parts, ltb-true, cases_lt}
 use Rattle.sites.specs.declared.refusal.Refusal.{Refusal}
 use Rattle.sites.specs.declared.refusal.Refusal.TheVariants as refusal
-use Rattle.rules.specs.Calls.{after, fitting, sound, is_start, found, to_vote, to_deliver, vote_of, asked_begin, asked_advance, everyone_of, to_deliver_at, delivery_after, tally_of, receipt_of}
+use Rattle.quorum.specs.Quorums.{Quorums}
+use Rattle.rules.specs.Calls.{Terms, going_by, after, fitting, sound, is_start, found, to_vote, to_deliver, vote_of, asked_begin, asked_advance, everyone_of, to_deliver_at, delivery_after, tally_of, receipt_of}
 use Rattle.rules.specs.Counting.{counts}
 use Rattle.rules.specs.Entries.{Entry, starting}
-use Rattle.rules.specs.Plans.{Plan}
+use Rattle.rules.specs.declared.step.Step.{Step}
 use Rattle.rules.specs.World.{fresh_row, World, no_entry, no_row, no_message, row_at, entry_at, applied, admitted, after_of, count_after}
 use Rattle.rules.specs.declared.call.Call.{Call}
 use Rattle.rules.specs.declared.call.Call.TheVariants as call
@@ -63,7 +64,7 @@ row_leads es es' rs s up r same l all t =
       | no d ↦ rw (get_or-set_other rs s t (record { up = up; role = r }) no_row d) (rw (same t d) (all t))
     ]
 
-applied_steady : (w : World) (p : Plan) → Steady w → p.site < w.net.sites → Roomy w p → KeptBy w.net.first p.site (entry_at w p.site) p → Steady (applied w p)
+applied_steady : (w : World) (p : Step) → Steady w → p.site < w.net.sites → Roomy w p → KeptBy w.net.first p.site (entry_at w p.site) p → Steady (applied w p)
 applied_steady w p st lt room k =
     let f = w.net.first in
     let inside : p.site < length w.entries = rw st.known lt in
@@ -79,48 +80,48 @@ applied_steady w p st lt room k =
       apart = applied_apart w p room k.others st.apart;
     }
 
--- the plan keeps all this, and its site is known
-abbrev Kept : World → ℕ → Plan → Type 0
+-- the step keeps all this, and its site is known
+abbrev Kept : World → ℕ → Step → Type 0
 Kept w s p = (s < w.net.sites) × KeptBy w.net.first s (entry_at w s) p
 
-kept_known : (w : World) (s : ℕ) (x : Result Plan Refusal) → s < w.net.sites → Held (KeptBy w.net.first s (entry_at w s)) x → Held (Kept w s) x
+kept_known : (w : World) (s : ℕ) (x : Result Step Refusal) → s < w.net.sites → Held (KeptBy w.net.first s (entry_at w s)) x → Held (Kept w s) x
 kept_known w s (Ok p) lt k = (lt, k)
 kept_known w s (Err r) lt k = tt
 
-plan_steady : (s : ℕ) (w : World) (x : Result Plan Refusal) → Steady w → Held (Roomy w) x → Held (Kept w s) x → Steady (after_of w x)
+plan_steady : (s : ℕ) (w : World) (x : Result Step Refusal) → Steady w → Held (Roomy w) x → Held (Kept w s) x → Steady (after_of w x)
 plan_steady s w (Ok p) st room k =
     subst (λ t. Kept w t p → Steady (applied w p)) k.1.own_site (λ j. applied_steady w p st j.0 room j.1) k
 plan_steady s w (Err r) st room k = st
 
-admitted_steady : (s l : ℕ) (w : World) (x : Result Plan Refusal) → Steady w → Held (Kept w s) x → Steady (after_of w (admitted l w x))
+admitted_steady : (s l : ℕ) (w : World) (x : Result Step Refusal) → Steady w → Held (Kept w s) x → Steady (after_of w (admitted l w x))
 admitted_steady s l w x st k =
     plan_steady s w (admitted l w x) st (admitted_roomy l w x) (held_admitted (Kept w s) l w x k)
 
-begin_kept : (p n : ℕ) (w : World) (v : Vote) → Steady w → Held (Kept w w.net.first) (asked_begin p n w v)
-begin_kept p n w v st =
+begin_kept : (t : Terms) (w : World) (v : Vote) → Steady w → Held (Kept w w.net.first) (asked_begin t w v)
+begin_kept t w v st =
     let s = w.net.first in
     let K = Kept w s in
-    held_if K (fitting p n w) _ refusal.Mismatch (λ a.
+    held_if K (fitting t w) _ refusal.Mismatch (λ a.
     held_if K (row_at w.net s).up _ refusal.WrongPower (λ b.
     kept_known w s _ st.first_known
     (begun_keeps v s (everyone_of w) (entry_at w s) (row_at w.net s).role st.under (st.leads s))))
 
-advance_kept : (commits aborts : ℕ → Bool) (p n : ℕ) (w : World) (s : ℕ) → Steady w → Held (Kept w s) (asked_advance commits aborts p n w s)
-advance_kept commits aborts p n w s st =
-    held_if (Kept w s) (fitting p n w) _ refusal.Mismatch (λ a.
+advance_kept : (t : Terms) (w : World) (s : ℕ) → Steady w → Held (Kept w s) (asked_advance t w s)
+advance_kept t w s st =
+    held_if (Kept w s) (fitting t w) _ refusal.Mismatch (λ a.
     held_if (Kept w s) (ltb s w.net.sites) _ refusal.UnknownSite (λ b.
     held_if (Kept w s) (row_at w.net s).up _ refusal.WrongPower (λ u.
     kept_known w s _ (ltb-true s w.net.sites b)
-    (advanced_keeps w.net.first commits aborts (everyone_of w) s (entry_at w s) (row_at w.net s).role (st.leads s)))))
+    (advanced_keeps w.net.first t.quorums (everyone_of w) s (entry_at w s) (row_at w.net s).role (st.leads s)))))
 
 -- a message that is found goes to a known site, which did not send it
 abbrev Fair : World → Message → Type 0
 Fair w m = (m.receiver < w.net.sites) × Apart m
 
-found_fair : (p n : ℕ) (w : World) (k : ℕ) → Steady w → Held (Fair w) (found p n w k)
-found_fair p n w k st =
+found_fair : (t : Terms) (w : World) (k : ℕ) → Steady w → Held (Fair w) (found t w k)
+found_fair t w k st =
     let m = get_or w.messages k no_message in
-    held_if (Fair w) (fitting p n w) _ refusal.Mismatch (λ a.
+    held_if (Fair w) (fitting t w) _ refusal.Mismatch (λ a.
     held_if (Fair w) (ltb k w.net.sent) _ refusal.NoMessage (λ b.
     held_if (Fair w) (sound w m) _ refusal.NoMessage (λ s.
     let rest = (and_parts (ltb m.sender w.net.sites) _ s).1 in (
@@ -172,19 +173,19 @@ delivery_steady l w (Ok m) st h =
     (kept_known w s (receipt_of w m) h.0 (received_keeps w.net.first m.kind m e r refl h.1 (st.leads s))))
 delivery_steady l w (Err r) st h = st
 
-call_steady : (commits aborts : ℕ → Bool) (p n l : ℕ) (w : World) (c : Call) → Steady w → Steady (after commits aborts p n l w c)
-call_steady commits aborts p n l w (call.Begin v) st =
-    admitted_steady w.net.first l w (asked_begin p n w v) st (begin_kept p n w v st)
-call_steady commits aborts p n l w (call.Vote k v) st =
-    vote_steady l w v (to_vote w (found p n w k)) st (to_vote_fair w (found p n w k) (found_fair p n w k st))
-call_steady commits aborts p n l w (call.Deliver k) st =
-    delivery_steady l w (to_deliver_at p n w k) st (to_deliver_fair w (found p n w k) (found_fair p n w k st))
-call_steady commits aborts p n l w (call.Advance s) st =
-    admitted_steady s l w (asked_advance commits aborts p n w s) st (advance_kept commits aborts p n w s st)
+call_steady : (t : Terms) (w : World) (c : Call) → Steady w → Steady (after t w c)
+call_steady t w (call.Begin v) st =
+    admitted_steady w.net.first t.left w (asked_begin t w v) st (begin_kept t w v st)
+call_steady t w (call.Vote k v) st =
+    vote_steady t.left w v (to_vote w (found t w k)) st (to_vote_fair w (found t w k) (found_fair t w k st))
+call_steady t w (call.Deliver k) st =
+    delivery_steady t.left w (to_deliver_at t w k) st (to_deliver_fair w (found t w k) (found_fair t w k st))
+call_steady t w (call.Advance s) st =
+    admitted_steady s t.left w (asked_advance t w s) st (advance_kept t w s st)
 
-run_steady : (commits aborts : ℕ → Bool) (p n : ℕ) (w : World) → Run commits aborts p n w → Steady w
-run_steady commits aborts p n w (new k f ms h b) = new_steady k f ms h
-run_steady commits aborts p n w (called l v c r) = call_steady commits aborts p n l v c (run_steady commits aborts p n v r)
+run_steady : (q : Quorums) (n : ℕ) (w : World) → Run q n w → Steady w
+run_steady q n w (new k f ms h b) = new_steady k f ms h
+run_steady q n w (called l v c r) = call_steady (going_by q n l) v c (run_steady q n v r)
 
 steady_agreeing : (w : World) (c : Call) → Steady w → Agreeing w c
 steady_agreeing w (call.Begin v) st = tt
@@ -193,5 +194,5 @@ steady_agreeing w (call.Deliver k) st = tt
 steady_agreeing w (call.Advance s) st = leads_agrees s (entry_at w s) (row_at w.net s).role (st.leads s)
 
 pub decided_stays_in_runs : DecidedStaysInRuns
-decided_stays_in_runs commits aborts p n l w c r =
-    decided_stays commits aborts p n l w c (steady_agreeing w c (run_steady commits aborts p n w r))
+decided_stays_in_runs t w c r =
+    decided_stays t w c (steady_agreeing w c (run_steady t.quorums t.sites w r))

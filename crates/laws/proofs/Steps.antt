@@ -2,9 +2,10 @@
 use Rattle.std.proofs.Common.{◌≡◌, ℕ, Bool, true, false, cond, not, ◌&&◌, ◌||◌, ltb, leb, Some, None, Option, sym, refl, ◌∙◌, le_refl, arith}
 use Rattle.std.proofs.lemmas.Bool.{true≢false, or_parts, and_parts, ltb-true}
 use Rattle.sites.specs.declared.refusal.Refusal.TheVariants as refusal
+use Rattle.quorum.specs.Quorums.{Quorums}
 use Rattle.rules.specs.Counting.{matches, is_initial}
 use Rattle.rules.specs.Entries.{Entry, Lawful, decided, in_state, attempted_in, joined, can_join, join, pre_state, final_state, voted_state}
-use Rattle.rules.specs.Plans.{Plan, plan, begin_plan, begun, voted, elected_to, attempted, concluded, received, poll_ruling, attempt_ruling, ruling_of, quorum_for, group_of, ruled, advanced}
+use Rattle.rules.specs.Plans.{step, begin_step, begun, voted, elected_to, attempted, concluded, received, poll_ruling, attempt_ruling, ruling_of, quorum_for, group_of, ruled, advanced}
 use Rattle.rules.specs.declared.call.Vote.{Vote}
 use Rattle.rules.specs.declared.call.Vote.TheVariants as vote
 use Rattle.rules.specs.declared.message.Kind.{Kind}
@@ -18,11 +19,12 @@ use Rattle.rules.specs.declared.state.Outcome.{Outcome}
 use Rattle.rules.specs.declared.state.Outcome.TheVariants as outcome
 use Rattle.rules.specs.declared.state.State.{State}
 use Rattle.rules.specs.declared.state.State.TheVariants as state
+use Rattle.rules.specs.declared.step.Step.{Step}
 use Rattle.laws.specs.Laws.{Risen, SameIfDecided, FitsRole, RoleAgrees}
 use Rattle.laws.proofs.Held.{Held, held_unless}
 
--- the plan is for the site s with the record e; where G holds, it keeps a decision
-pub record Fits (G : Type 0) (s : ℕ) (e : Entry) (p : Plan) : Type 0 where
+-- the step is for the site s with the record e; where G holds, it keeps a decision
+pub record Fits (G : Type 0) (s : ℕ) (e : Entry) (p : Step) : Type 0 where
   pub own_site : p.site ≡ s
   pub rises : Lawful e → Risen e p.own
   pub lawful : Lawful e → Lawful p.own
@@ -30,7 +32,7 @@ pub record Fits (G : Type 0) (s : ℕ) (e : Entry) (p : Plan) : Type 0 where
 
 module _ (G : Type 0) (s : ℕ) (e : Entry) where
   -- only the state changes
-  in_state_fits : (t : State) (r : Option Role) (k : Kind) (x : ℕ) → (G → decided e.state ≡ true → t ≡ e.state) → Fits G s e (plan s (in_state e t) r k x)
+  in_state_fits : (t : State) (r : Option Role) (k : Kind) (x : ℕ) → (G → decided e.state ≡ true → t ≡ e.state) → Fits G s e (step s (in_state e t) r k x)
   in_state_fits t r k x h = record {
     own_site = refl;
     rises = λ l. record { elected = le_refl e.elected; attempt = le_refl e.attempt };
@@ -39,7 +41,7 @@ module _ (G : Type 0) (s : ℕ) (e : Entry) where
   }
 
   -- the last attempt comes up to the last elected
-  attempted_in_fits : (t : State) (r : Option Role) (k : Kind) (x : ℕ) → (G → decided e.state ≡ true → t ≡ e.state) → Fits G s e (plan s (attempted_in e t) r k x)
+  attempted_in_fits : (t : State) (r : Option Role) (k : Kind) (x : ℕ) → (G → decided e.state ≡ true → t ≡ e.state) → Fits G s e (step s (attempted_in e t) r k x)
   attempted_in_fits t r k x h = record {
     own_site = refl;
     rises = λ l. record { elected = le_refl e.elected; attempt = l.2 };
@@ -48,7 +50,7 @@ module _ (G : Type 0) (s : ℕ) (e : Entry) where
   }
 
   -- the last elected rises
-  joined_fits : (n lead : ℕ) (r : Option Role) (k : Kind) (x : ℕ) → can_join e n lead ≡ true → Fits G s e (plan s (joined e n lead) r k x)
+  joined_fits : (n lead : ℕ) (r : Option Role) (k : Kind) (x : ℕ) → can_join e n lead ≡ true → Fits G s e (step s (joined e n lead) r k x)
   joined_fits n lead r k x h =
       let a = and_parts (ltb e.elected n) (ltb n 1000000 && ltb lead 16) h in
       let b = and_parts (ltb n 1000000) (ltb lead 16) a.1 in
@@ -74,7 +76,7 @@ initial_undecided state.Aborted u i d = absurd (true≢false i)
 undecided : (t u : State) → decided t ≡ false → decided t ≡ true → u ≡ t
 undecided t u n d = absurd (true≢false (sym d ∙ n))
 
-begin_fits : (v : Vote) (s all : ℕ) (e : Entry) (r : Option Role) → not (is_initial e.state) ≡ false → Fits (Unit {0}) s e (begin_plan v s all e r)
+begin_fits : (v : Vote) (s all : ℕ) (e : Entry) (r : Option Role) → not (is_initial e.state) ≡ false → Fits (Unit {0}) s e (begin_step v s all e r)
 begin_fits vote.Yes s all e r i = in_state_fits (Unit {0}) s e _ _ _ _ (λ g d. initial_undecided e.state state.Waiting i d)
 begin_fits vote.No s all e r i = attempted_in_fits (Unit {0}) s e _ _ _ _ (λ g d. initial_undecided e.state state.Aborted i d)
 
@@ -154,12 +156,12 @@ reports_keep state.Committed false false x h k = absurd (true≢false (sym (h re
 reports_keep state.Aborted true c x h k = λ d. refl
 reports_keep state.Aborted false c x h k = absurd (true≢false (sym (k refl)))
 
-role_keeps : (commits aborts : ℕ → Bool) (all : ℕ) (e : Entry) (r : Role) → FitsRole e r → Keeps e.state (ruling_of commits aborts all r)
-role_keeps commits aborts all e (role.Polling p) h = undecided_keeps e.state (poll_ruling all p) h
-role_keeps commits aborts all e (role.Canvassing c) h = reports_keep e.state c.aborted c.committed _ h.0 h.1
-role_keeps commits aborts all e (role.Attempting t) h = undecided_keeps e.state (attempt_ruling (quorum_for commits aborts t.outcome t.acked) t) h
+role_keeps : (q : Quorums) (all : ℕ) (e : Entry) (r : Role) → FitsRole e r → Keeps e.state (ruling_of q all r)
+role_keeps q all e (role.Polling p) h = undecided_keeps e.state (poll_ruling all p) h
+role_keeps q all e (role.Canvassing c) h = reports_keep e.state c.aborted c.committed _ h.0 h.1
+role_keeps q all e (role.Attempting t) h = undecided_keeps e.state (attempt_ruling (quorum_for q t.outcome t.acked) t) h
 
-pub advanced_fits : (commits aborts : ℕ → Bool) (all s : ℕ) (e : Entry) (r : Option Role) → Held (Fits (RoleAgrees e r) s e) (advanced commits aborts all s e r)
-advanced_fits commits aborts all s e None = tt
-advanced_fits commits aborts all s e (Some r) =
-    ruled_fits (FitsRole e r) s (group_of all r) e (ruling_of commits aborts all r) (role_keeps commits aborts all e r)
+pub advanced_fits : (q : Quorums) (all s : ℕ) (e : Entry) (r : Option Role) → Held (Fits (RoleAgrees e r) s e) (advanced q all s e r)
+advanced_fits q all s e None = tt
+advanced_fits q all s e (Some r) =
+    ruled_fits (FitsRole e r) s (group_of all r) e (ruling_of q all r) (role_keeps q all e r)

@@ -1,7 +1,7 @@
 -- What holds of every call, whatever its numbers are and whatever the message list holds.
-use Rattle.std.specs.Prelude.{◌≡◌, ℕ, ◌≤◌, Bool, true, false, ◌≢◌, length, take, Some, None, Err, Option, Result, slice_index_or}
+use Rattle.std.specs.Prelude.{◌≡◌, ℕ, ◌≤◌, true, false, ◌≢◌, length, take, Some, None, Err, Option, Result, slice_index_or}
 use Rattle.sites.specs.declared.refusal.Refusal.{Refusal}
-use Rattle.rules.specs.Calls.{answer, after}
+use Rattle.rules.specs.Calls.{Terms, answer, after}
 use Rattle.rules.specs.Entries.{Entry, Lawful, decided}
 use Rattle.rules.specs.Posting.{places}
 use Rattle.rules.specs.World.{World, no_message, row_at, entry_at}
@@ -14,7 +14,7 @@ use Rattle.rules.specs.declared.state.State.TheVariants as state
 -- P holds of the world before a call, the call, and the world after it, for every policy and with any amount left in the vault
 abbrev pub EveryCall : (World → Call → World → Type 0) → Type 0
 EveryCall P =
-    (commits aborts : ℕ → Bool) (p n l : ℕ) (w : World) (c : Call) → P w c (after commits aborts p n l w c)
+    (t : Terms) (w : World) (c : Call) → P w c (after t w c)
 
 -- where the answer is a refusal, the world is the same
 abbrev pub SameIfRefused : Result (Unit {0}) Refusal → World → World → Type 0
@@ -23,8 +23,8 @@ SameIfRefused a w w' = (x : Refusal) → a ≡ Err x → w' ≡ w
 -- a refused call changes nothing
 abbrev pub RefusalsChangeNothing : Type 0
 RefusalsChangeNothing =
-    (commits aborts : ℕ → Bool) (p n l : ℕ) (w : World) (c : Call) →
-    SameIfRefused (answer commits aborts p n l w c) w (after commits aborts p n l w c)
+    (t : Terms) (w : World) (c : Call) →
+    SameIfRefused (answer t w c) w (after t w c)
 
 -- no message is taken back, those sent stay as they are, and the list has as many places as before and is not overfilled
 pub record Grown (w w' : World) : Type 0 where

@@ -1,6 +1,7 @@
 -- What holds in every run: a new net, and then call after call.
-use Rattle.std.specs.Prelude.{ℕ, ◌<◌, ◌≤◌, Bool, List, replicate}
-use Rattle.rules.specs.Calls.{after}
+use Rattle.std.specs.Prelude.{ℕ, ◌<◌, ◌≤◌, List, replicate}
+use Rattle.quorum.specs.Quorums.{Quorums}
+use Rattle.rules.specs.Calls.{Terms, going_by, after}
 use Rattle.rules.specs.Entries.{starting}
 use Rattle.rules.specs.World.{World, world, fresh, entry_at}
 use Rattle.rules.specs.declared.call.Call.{Call}
@@ -11,13 +12,13 @@ use Rattle.laws.specs.Laws.{SameIfDecided}
 abbrev pub new_world : ℕ → ℕ → List Message → World
 new_world k f ms = world (fresh k f) (replicate k (starting f)) ms
 
--- the worlds that calls lead to, accepted or refused, under one policy, with any amount left in the vault at each of them
-pub data Run (commits aborts : ℕ → Bool) (p n : ℕ) : World → Type 0 where
-  new : (k f : ℕ) (ms : List Message) → f < k → k ≤ 16 → Run commits aborts p n (new_world k f ms)
-  called : (l : ℕ) (w : World) (c : Call) → Run commits aborts p n w → Run commits aborts p n (after commits aborts p n l w c)
+-- the worlds that calls lead to, accepted or refused, under one policy, with a vault of n sites and any amount left in it at each of them
+pub data Run (q : Quorums) (n : ℕ) : World → Type 0 where
+  new : (k f : ℕ) (ms : List Message) → f < k → k ≤ 16 → Run q n (new_world k f ms)
+  called : (l : ℕ) (w : World) (c : Call) → Run q n w → Run q n (after (going_by q n l) w c)
 
 -- in a run, a decided site never changes its state
 abbrev pub DecidedStaysInRuns : Type 0
 DecidedStaysInRuns =
-    (commits aborts : ℕ → Bool) (p n l : ℕ) (w : World) (c : Call) → Run commits aborts p n w →
-    (s : ℕ) → SameIfDecided (entry_at w s) (entry_at (after commits aborts p n l w c) s)
+    (t : Terms) (w : World) (c : Call) → Run t.quorums t.sites w →
+    (s : ℕ) → SameIfDecided (entry_at w s) (entry_at (after t w c) s)

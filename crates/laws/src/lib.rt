@@ -1,54 +1,40 @@
-//! Laws over all calls. Each is the contract of a function whose result means nothing.
+//! Laws over all calls. Each is the contract of a function that does nothing.
 #![tactic(auto)]
 
 ghost use Rattle.laws.specs.Laws.{RefusalsChangeNothing, ListsOnlyGrow, NumbersNeverFall, EntriesStayLawful, DecidedStays, OnlyOneSite};
 ghost use Rattle.laws.specs.Runs.{DecidedStaysInRuns};
 
 // A refused call changes nothing.
-pub fn refusals_change_nothing() -> u8
+pub fn refusals_change_nothing()
     ensures { RefusalsChangeNothing }
-{
-    0
-}
+{}
 
 // The list of messages only grows: what was sent stays.
-pub fn lists_only_grow() -> u8
+pub fn lists_only_grow()
     ensures { ListsOnlyGrow }
-{
-    0
-}
+{}
 
 // The last elected and the last attempt of a site never fall.
-pub fn numbers_never_fall() -> u8
+pub fn numbers_never_fall()
     ensures { NumbersNeverFall }
-{
-    0
-}
+{}
 
 // Lawful records stay lawful.
-pub fn entries_stay_lawful() -> u8
+pub fn entries_stay_lawful()
     ensures { EntriesStayLawful }
-{
-    0
-}
+{}
 
 // A decided site never changes its state.
-pub fn decided_stays() -> u8
+pub fn decided_stays()
     ensures { DecidedStays }
-{
-    0
-}
+{}
 
 // In a run, which starts with a new net, that needs no premise: a decided site never changes its state.
-pub fn decided_stays_in_runs() -> u8
+pub fn decided_stays_in_runs()
     ensures { DecidedStaysInRuns }
-{
-    0
-}
+{}
 
 // A call writes no record but that of its site.
-pub fn only_one_site() -> u8
+pub fn only_one_site()
     ensures { OnlyOneSite }
-{
-    0
-}
+{}

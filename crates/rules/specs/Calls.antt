@@ -22,8 +22,11 @@ pub record Terms : Type 0 where
   pub sites : ℕ
   pub left : ℕ
 
+abbrev pub going_by : Quorums → ℕ → ℕ → Terms
+going_by q n l = record { quorums = q; sites = n; left = l }
+
 abbrev pub terms : Quorums → Stored → Terms
-terms q v = record { quorums = q; sites = v.sites; left = v.left }
+terms q v = going_by q v.sites v.left
 
 -- policy, vault and list fit the net
 abbrev pub fitting : Terms → World → Bool

@@ -47,14 +47,14 @@ impl Net {
     pub fn is_up(&self, site: Site) -> Result<bool, Refusal>
         ensures { result ≡ (if nat_lt site self.now.sites then Ok (row_at self.now site).up else Err UnknownSite) }
     {
-        self.known_row(site).map(|row| row.up)
+        Ok(self.known_row(site)?.up)
     }
 
     // What the site is doing as a coordinator, if it is one.
     pub fn role(&self, site: Site) -> Result<Option<Role>, Refusal>
         ensures { result ≡ role_answer self.now site }
     {
-        self.known_row(site).map(|row| row.role)
+        Ok(self.known_row(site)?.role)
     }
 
     // The first coordinator starts the approval with its own vote.
