@@ -159,7 +159,7 @@ reports_keep state.Aborted false c x h k = absurd (true≢false (sym (k refl)))
 role_keeps : (q : Quorums) (all : ℕ) (e : Entry) (r : Role) → FitsRole e r → Keeps e.state (ruling_of q all r)
 role_keeps q all e (role.Polling p) h = undecided_keeps e.state (poll_ruling all p) h
 role_keeps q all e (role.Canvassing c) h = reports_keep e.state c.aborted c.committed _ h.0 h.1
-role_keeps q all e (role.Attempting t) h = undecided_keeps e.state (attempt_ruling (quorum_for q t.outcome t.acked) t) h
+role_keeps q all e (role.Attempting t) h = undecided_keeps e.state (attempt_ruling (quorum_for q.commits q.aborts t.outcome t.acked) t) h
 
 pub advanced_fits : (q : Quorums) (all s : ℕ) (e : Entry) (r : Option Role) → Held (Fits (RoleAgrees e r) s e) (advanced q all s e r)
 advanced_fits q all s e None = tt

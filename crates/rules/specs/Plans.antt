@@ -120,9 +120,9 @@ canvass_ruling commit abort c =
     (cond (not c.committable && abort) (Some (ruling.Attempt outcome.Abort)) None)))
 
 -- is a set a quorum for an outcome
-abbrev pub quorum_for : Quorums → Outcome → ℕ → Bool
-quorum_for q outcome.Commit x = q.commits x
-quorum_for q outcome.Abort x = q.aborts x
+abbrev pub quorum_for : (ℕ → Bool) → (ℕ → Bool) → Outcome → ℕ → Bool
+quorum_for commits aborts outcome.Commit x = commits x
+quorum_for commits aborts outcome.Abort x = aborts x
 
 abbrev pub attempt_ruling : Bool → Attempt → Option Ruling
 attempt_ruling enough a = cond enough (Some (ruling.Decide a.outcome)) None
@@ -130,7 +130,7 @@ attempt_ruling enough a = cond enough (Some (ruling.Decide a.outcome)) None
 abbrev pub ruling_of : Quorums → ℕ → Role → Option Ruling
 ruling_of q all (role.Polling p) = poll_ruling all p
 ruling_of q all (role.Canvassing c) = canvass_ruling (q.commits c.reported) (q.aborts c.reported) c
-ruling_of q all (role.Attempting t) = attempt_ruling (quorum_for q t.outcome t.acked) t
+ruling_of q all (role.Attempting t) = attempt_ruling (quorum_for q.commits q.aborts t.outcome t.acked) t
 
 -- the sites that a coordinator speaks to: all of them when polling
 abbrev pub group_of : ℕ → Role → ℕ

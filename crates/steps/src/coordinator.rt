@@ -87,7 +87,7 @@ fn canvass_ruling(canvass: &Canvass, commit_quorum: bool, abort_quorum: bool) ->
 
 // Is the set a quorum for the outcome?
 fn is_quorum<P: Policy>(policy: &P, outcome: Outcome, group: SiteSet) -> bool
-    ensures { result ≡ quorum_for (P.quorums policy.now) outcome group }
+    ensures { result ≡ quorum_for (P.quorums policy.now).commits (P.quorums policy.now).aborts outcome group }
 {
     match outcome {
         Outcome::Commit => policy.is_commit_quorum(group),
