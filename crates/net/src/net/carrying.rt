@@ -63,7 +63,7 @@ impl Net {
         ensures left { Left true (V.stored vault.old).left (V.stored vault.new).left }
         ensures tied { V.tied vault.old vault.new }
     {
-        let _ = vault.write(step.site, step.own);
+        vault.write(step.site, step.own).unwrap();
         self.set_role(step.site, step.role);
         let broadcast = Broadcast {
             kind: step.kind,
@@ -71,8 +71,7 @@ impl Net {
             sender: step.site,
             to: step.to,
         };
-        let _ = broadcast.send(list, self.sent);
-        self.sent += step.to.size() as usize;
+        self.sent = broadcast.send(list, self.sent).unwrap();
     }
 
     // What was asked for is done if there is room for it.

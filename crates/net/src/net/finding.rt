@@ -22,7 +22,7 @@ pub(super) fn record_of<V: Vault>(vault: &V, site: Site) -> Record
     requires { site < (V.stored vault.now).sites }
     ensures { result ≡ slice_index_or (V.stored vault.now).entries site no_entry }
 {
-    vault.read(site).unwrap_or(Record::blank())
+    vault.read(site).unwrap()
 }
 
 impl Net {
