@@ -16,18 +16,8 @@ pub trait Vault {
     // The number of sites, the record of each, and how many writes are left at least.
     ghost stored: { Self → Stored };
 
-    // There is just one record for each site.
-    ghost whole: { (v : Self) → length (stored v).entries ≡ (stored v).sites };
-
-    // Each of them is lawful.
-    ghost lawful: { (v : Self) (s : ℕ) → Lawful (slice_index_or (stored v).entries s no_entry) };
-
     // The second vault has the memory of the first, and what is no record in it is as it was.
     ghost tied: { Self → Self → Type 0 };
-
-    ghost alike: { (v : Self) → tied v v };
-
-    ghost chained: { (u v w : Self) → tied u v → tied v w → tied u w };
 
     fn sites(&self) -> u32
         ensures { result ≡ (stored self.now).sites };
@@ -47,4 +37,15 @@ pub trait Vault {
         ensures entries { (stored self.new).entries ≡ entries_written result site own (stored self.old).entries }
         ensures left { Spent result (stored self.old).left (stored self.new).left }
         ensures tied { tied self.old self.new };
+
+    // There is just one record for each site.
+    ghost whole: { (v : Self) → length (stored v).entries ≡ (stored v).sites };
+
+    // Each of them is lawful.
+    ghost lawful: { (v : Self) (s : ℕ) → Lawful (slice_index_or (stored v).entries s no_entry) };
+
+    // A vault has its own memory, and one that comes after a later one has the memory of the first.
+    ghost alike: { (v : Self) → tied v v };
+
+    ghost chained: { (u v w : Self) → tied u v → tied v w → tied u w };
 }
