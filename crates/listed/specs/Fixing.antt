@@ -1,5 +1,5 @@
 -- What fixing a listing answers and leaves.
-use Rattle.std.specs.Prelude.{ℕ, cond, not, ◌||◌, List, length, Ok, Err, Result, nat_lt}
+use Rattle.std.specs.Prelude.{if◌then◌else◌, ℕ, cond, not, ◌||◌, List, length, Ok, Err, is_ok, Result, nat_lt}
 use Rattle.std.specs.List.{list_all}
 use Rattle.sites.specs.declared.refusal.Refusal.{Refusal}
 use Rattle.sites.specs.declared.refusal.Refusal.TheVariants.{Unreadable, SiteCount, PolicyRange, NoCrossing}
@@ -14,14 +14,11 @@ fix_answer n commit abort =
     (cond (not (list_all (proper n) commit) || not (list_all (proper n) abort)) (Err PolicyRange)
     (cond (not (all_meet commit abort)) (Err NoCrossing) (Ok tt))))
 
-abbrev pub on_answer : Result (Unit {0}) Refusal → Listing → Listing → Listing
-on_answer (Ok u) next old = next
-on_answer (Err e) next old = old
-
 -- the listing of the sets that are handed over
 abbrev pub listing_of : ℕ → List ℕ → List ℕ → Listing
 listing_of n commit abort = record { sites = n; commit = commit; abort = abort }
 
 -- the listing that is handed over, or the old one where it is refused
 abbrev pub fix_listing : ℕ → List ℕ → List ℕ → Listing → Listing
-fix_listing n commit abort old = on_answer (fix_answer n commit abort) (listing_of n commit abort) old
+fix_listing n commit abort old =
+    if is_ok (fix_answer n commit abort) then listing_of n commit abort else old

@@ -7,11 +7,13 @@ use crate::listing::Listed;
 use quorum::Policy;
 use sites::SiteSet;
 
-// Has the group no unknown site, and includes it a listed set?
-fn is_quorum(sites: u32, sets: &[SiteSet], group: SiteSet) -> bool
-    ensures { result ≡ listed_quorum sites sets.now group }
-{
-    group.is_known(sites) && sets.iter().any(|listed| group.includes(*listed))
+impl Listed {
+    // Has the group no unknown site, and includes it one of the sets?
+    fn is_quorum(&self, sets: &[SiteSet], group: SiteSet) -> bool
+        ensures { result ≡ listed_quorum self.now.listing.sites sets.now group }
+    {
+        group.is_known(self.sites()) && sets.iter().any(|listed| group.includes(*listed))
+    }
 }
 
 impl Policy for Listed {
@@ -28,10 +30,10 @@ impl Policy for Listed {
     }
 
     fn is_commit_quorum(&self, group: SiteSet) -> bool {
-        is_quorum(self.listing.sites, &self.listing.commit, group)
+        self.is_quorum(&self.listing.commit, group)
     }
 
     fn is_abort_quorum(&self, group: SiteSet) -> bool {
-        is_quorum(self.listing.sites, &self.listing.abort, group)
+        self.is_quorum(&self.listing.abort, group)
     }
 }
