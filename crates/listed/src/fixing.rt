@@ -26,7 +26,7 @@ fn all_proper(sites: u32, sets: &[SiteSet]) -> bool
     sets.iter().all(|group| is_proper(sites, *group))
 }
 
-// Does the set meet every listed set?
+// Does the set meet every listed set? (As a closure within the one below it would need the same clause there.)
 fn meets_all(group: SiteSet, sets: &[SiteSet]) -> bool
     ensures { result ≡ list_all (meets group) sets.now }
 {

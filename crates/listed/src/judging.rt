@@ -8,7 +8,7 @@ use quorum::Policy;
 use sites::SiteSet;
 
 impl Listed {
-    // Has the group no unknown site, and includes it one of the sets?
+    // Has the group no unknown site, and includes it one of the sets? Both kinds of quorum ask this, each with its sets.
     fn is_quorum(&self, sets: &[SiteSet], group: SiteSet) -> bool
         ensures { result ≡ listed_quorum self.now.listing.sites sets.now group }
     {

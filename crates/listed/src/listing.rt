@@ -27,6 +27,7 @@ impl Model for Listing {
 }
 
 // A policy of listed sets: a listing whose quorums cross. It has no sites until it is fixed.
+// Its fact is a ghost field and no model's invariant: the laws of a policy are owed for every value of a model.
 #[derive(Drop)]
 pub struct Listed {
     pub(crate) listing: Listing,

@@ -28,6 +28,7 @@ impl Model for Ballot {
 }
 
 // A policy by votes: a ballot whose quorums cross. It has no sites until it is fixed.
+// Its facts are ghost fields and no model's invariant: the laws of a policy are owed for every value of a model.
 #[derive(Drop)]
 pub struct Votes {
     pub(crate) ballot: Ballot,

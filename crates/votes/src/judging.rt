@@ -23,7 +23,7 @@ impl Votes {
         all
     }
 
-    // Has the group no unknown site, and the votes that it needs?
+    // Has the group no unknown site, and the votes that it needs? Both kinds of quorum ask this, each with its number of votes.
     fn enough(&self, needed: u32, group: SiteSet) -> bool
         ensures { result ≡ enough_votes self.now.ballot needed group }
     {
