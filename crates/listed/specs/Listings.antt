@@ -1,7 +1,15 @@
 -- A listing: the sites, and the sets that make a quorum of each kind.
 use Rattle.std.specs.Prelude.{ℕ, Bool, not, ◌&&◌, List, [], ◌==◌}
+use Rattle.std.specs.List.{list_any}
 use Rattle.sites.specs.Sets.{includes, known}
-use Rattle.listed.specs.Crossing.{some}
+use Rattle.quorum.specs.Quorums.{Quorums}
+
+-- the fewest sites that a net can have, and the most
+abbrev pub fewest_sites : ℕ
+fewest_sites = 2
+
+abbrev pub most_sites : ℕ
+most_sites = 16
 
 pub record Listing : Type 0 where
   pub sites : ℕ
@@ -10,13 +18,7 @@ pub record Listing : Type 0 where
 
 -- a set without unknown site that includes a listed set
 abbrev pub listed_quorum : ℕ → List ℕ → ℕ → Bool
-listed_quorum n ys x = known n x && some (includes x) ys
-
--- what a policy means: its number of sites, and its two families of sets
-pub record Quorums : Type 0 where
-  pub sites : ℕ
-  pub commits : ℕ → Bool
-  pub aborts : ℕ → Bool
+listed_quorum n ys x = known n x && list_any (includes x) ys
 
 -- what the listing means as a policy
 abbrev pub quorums_of : Listing → Quorums

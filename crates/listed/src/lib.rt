@@ -4,3 +4,5 @@
 pub mod fixing;
 pub mod judging;
 pub mod listing;
+
+pub use listing::Listed;

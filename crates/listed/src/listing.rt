@@ -1,22 +1,35 @@
-ghost use Rattle.std.specs.Prelude.{◌≡◌, ◌≤◌, true, take};
-ghost use Rattle.listed.specs.Crossing.{most_sets, all_meet};
+ghost use Rattle.std.specs.Prelude.{◌≡◌, true};
+ghost use Rattle.listed.specs.Crossing.{all_meet};
 
+use arrayvec::ArrayVec;
 use sites::SiteSet;
+use std::marker::Model;
 
 // The most sets of either kind.
 pub const MOST_SETS: usize = 8;
 
-// A policy of listed sets. It has no sites until it is fixed.
+// The sites, and the sets that make a quorum of either kind.
+#[derive(Drop)]
+pub struct Listing {
+    pub(crate) sites: u32,
+    // The sets that commit.
+    pub(crate) commit: ArrayVec<SiteSet, MOST_SETS>,
+    // The sets that abort.
+    pub(crate) abort: ArrayVec<SiteSet, MOST_SETS>,
+}
+
+impl Model for Listing {
+    ghost use Rattle.listed.specs.Listings.{Listing as Seen};
+
+    ghost Value = { Seen };
+
+    ghost view = { λ l. record { sites = l.sites; commit = l.commit.items; abort = l.abort.items } };
+}
+
+// A policy of listed sets: a listing whose quorums cross. It has no sites until it is fixed.
+// Its fact is a ghost field and no model's invariant: the laws of a policy are owed for every value of a model.
 #[derive(Drop)]
 pub struct Listed {
-    pub(crate) sites: u32,
-    // The sets that commit; those past the first `commits` do not count.
-    pub(crate) commit: [SiteSet; MOST_SETS],
-    pub(crate) commits: u32,
-    // The sets that abort; those past the first `aborts` do not count.
-    pub(crate) abort: [SiteSet; MOST_SETS],
-    pub(crate) aborts: u32,
-    ghost few_commits: { commits ≤ most_sets },
-    ghost few_aborts: { aborts ≤ most_sets },
-    ghost crossing: { all_meet (take commits commit) (take aborts abort) ≡ true },
+    pub(crate) listing: Listing,
+    ghost crossing: { all_meet listing.commit listing.abort ≡ true },
 }

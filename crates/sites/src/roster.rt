@@ -5,7 +5,7 @@ use crate::Site;
 use crate::set::MOST_SITES;
 
 // The fewest sites that a net can have.
-const FEWEST_SITES: u32 = 2;
+pub const FEWEST_SITES: u32 = 2;
 
 // Are there 2 to 16 sites, and is the first coordinator one of them?
 pub fn is_seated(sites: u32, first: Site) -> bool

@@ -9,7 +9,7 @@ use std::marker::Model;
 pub const MOST_SITES: u32 = 16;
 
 // A set of sites, written as a number: site s counts 2^s.
-#[derive(Clone, Copy, PartialEq, Eq)]
+#[derive(Clone, Copy, PartialEq, Eq, Default)]
 pub struct SiteSet {
     bits: u32,
 }

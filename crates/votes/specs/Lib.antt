@@ -1,4 +1,3 @@
 pub mod Ballots
 pub mod Fixing
-pub mod Views
 pub mod Weights

@@ -1,16 +1,38 @@
-ghost use Rattle.std.specs.Prelude.{◌+◌, ◌<◌, ◌≤◌, take, sum};
+ghost use Rattle.std.specs.Prelude.{◌+◌, ◌<◌, ◌≤◌, length, sum};
+ghost use Rattle.votes.specs.Ballots.{most_voters, most_total};
 
-// A policy by votes. It has no sites until it is fixed.
+use arrayvec::ArrayVec;
+use sites::set::MOST_SITES;
+use std::marker::Model;
+
+// The most sites that can vote: all that a net can have.
+pub const MOST_VOTERS: usize = MOST_SITES as usize;
+
+// The votes of each site, and how many of them a quorum of either kind needs.
 #[derive(Drop)]
-pub struct Votes {
-    // The votes of each site; those past the last site do not count.
-    pub(crate) votes: [u32; 16],
-    pub(crate) sites: u32,
+pub struct Ballot {
+    pub(crate) votes: ArrayVec<u32, MOST_VOTERS>,
     // The votes that a set needs to commit.
     pub(crate) commit: u32,
     // The votes that a set needs to abort.
     pub(crate) abort: u32,
-    ghost few: { sites ≤ 16 },
-    ghost light: { sum (take sites votes) ≤ 240 },
-    ghost crossing: { sum (take sites votes) < commit + abort },
+}
+
+impl Model for Ballot {
+    ghost use Rattle.std.specs.Prelude.{length};
+    ghost use Rattle.votes.specs.Ballots.{Ballot as Seen};
+
+    ghost Value = { Seen };
+
+    ghost view = { λ b. record { sites = length b.votes.items; commit = b.commit; abort = b.abort; votes = b.votes.items } };
+}
+
+// A policy by votes: a ballot whose quorums cross. It has no sites until it is fixed.
+// Its facts are ghost fields and no model's invariant: the laws of a policy are owed for every value of a model.
+#[derive(Drop)]
+pub struct Votes {
+    pub(crate) ballot: Ballot,
+    ghost few: { length ballot.votes ≤ most_voters },
+    ghost light: { sum ballot.votes ≤ most_total },
+    ghost crossing: { sum ballot.votes < ballot.commit + ballot.abort },
 }

@@ -4,3 +4,5 @@
 pub mod ballot;
 pub mod fixing;
 pub mod judging;
+
+pub use ballot::Votes;

@@ -1,12 +1,9 @@
-use Rattle.std.proofs.Common.{take_all, rules}
-use Rattle.listed.proofs.Tests.{every_not, every_more}
+use Rattle.std.proofs.Common.{rules}
+use Rattle.std.proofs.lemmas.Iterator.{YieldsList-from_slice}
+use Rattle.std.proofs.lemmas.Iterator.Search.{all_from_yields_List}
+use borrow.Author.Tests.{tests}
+use Rattle.listed.specs.Listings.{proper}
 use Rattle.listed.proofs.fixing.all_proper.Goals as goal
 
-pub returns-then-not-proper : goal.returns-then-not-proper
-returns-then-not-proper c = search (rules, every_not)
-
-pub loop-group-preserved : goal.loop-group-preserved
-loop-group-preserved c = search (rules, every_more)
-
 pub returns : goal.returns
-returns c = search (rules, take_all)
+returns c = all_from_yields_List (proper c.args.sites) _ _ _ c.all.ensures.ran (YieldsList-from_slice c.args.sets.now cc) (λ x b q k. search (rules, tests))

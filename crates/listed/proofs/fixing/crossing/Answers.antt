@@ -1,12 +1,10 @@
-use Rattle.std.proofs.Common.{take_all, rules}
-use Rattle.listed.proofs.Tests.{every_not, every_more}
+use Rattle.std.proofs.Common.{rules}
+use Rattle.std.proofs.lemmas.Iterator.{YieldsList-from_slice}
+use Rattle.std.proofs.lemmas.Iterator.Search.{all_from_yields_List}
+use borrow.Author.Tests.{tests}
+use Rattle.std.specs.List.{list_all}
+use Rattle.sites.specs.Sets.{meets}
 use Rattle.listed.proofs.fixing.crossing.Goals as goal
 
-pub returns-then-not-meets_all : goal.returns-then-not-meets_all
-returns-then-not-meets_all c = search (rules, every_not)
-
-pub loop-group-preserved : goal.loop-group-preserved
-loop-group-preserved c = search (rules, every_more)
-
 pub returns : goal.returns
-returns c = search (rules, take_all)
+returns c = all_from_yields_List (λ group. list_all (meets group) c.args.abort.now) _ _ _ c.all.ensures.ran (YieldsList-from_slice c.args.commit.now cc) (λ x b q k. search (rules, tests))

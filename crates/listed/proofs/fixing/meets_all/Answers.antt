@@ -1,12 +1,9 @@
-use Rattle.std.proofs.Common.{take_all, rules}
-use Rattle.listed.proofs.Tests.{every_not, every_more}
+use Rattle.std.proofs.Common.{rules}
+use Rattle.std.proofs.lemmas.Iterator.{YieldsList-from_slice}
+use Rattle.std.proofs.lemmas.Iterator.Search.{all_from_yields_List}
+use borrow.Author.Tests.{tests}
+use Rattle.sites.specs.Sets.{meets}
 use Rattle.listed.proofs.fixing.meets_all.Goals as goal
 
-pub returns-then-not-meets : goal.returns-then-not-meets
-returns-then-not-meets c = search (rules, every_not)
-
-pub loop-other-preserved : goal.loop-other-preserved
-loop-other-preserved c = search (rules, every_more)
-
 pub returns : goal.returns
-returns c = search (rules, take_all)
+returns c = all_from_yields_List (meets c.args.group) _ _ _ c.all.ensures.ran (YieldsList-from_slice c.args.sets.now cc) (λ x b q k. search (rules, tests))
