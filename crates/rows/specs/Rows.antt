@@ -1,9 +1,8 @@
 -- A row vault by its memory.
-use Rattle.std.specs.Prelude.{◌≡◌, ℕ, List, ◌++◌, take, drop, Result}
-use Rattle.sites.specs.declared.refusal.Refusal.{Refusal}
+use Rattle.std.specs.Prelude.{◌≡◌, ℕ, List, ◌++◌, length, take, drop}
 use Rattle.rules.specs.Entries.{Entry}
 use Rattle.rules.specs.World.{Stored}
-use Rattle.vault.specs.Opening.{opened_sites, opened_entries}
+use Rattle.vault.specs.Opening.{opening, opened_sites, opened_entries}
 use Rattle.rows.specs.declared.rows.RowVault.{RowVault}
 
 -- what is left, always
@@ -21,10 +20,14 @@ SameMemory v v' =
     × (v'.sites ≡ v.sites)
     × (drop v.sites v'.rows.now ≡ drop v.sites v.rows.now)
 
--- what a new vault holds, by the answer of the check
-abbrev pub row_opened : Result (Unit {0}) Refusal → ℕ → ℕ → Stored
-row_opened r n f = record { sites = opened_sites r n; entries = opened_entries r n f; left = row_left }
+-- what a new vault for n sites under the first coordinator f holds, on the memory es
+abbrev pub row_opened : List Entry → ℕ → ℕ → Stored
+row_opened es n f = record {
+  sites = opened_sites (opening (length es) n f) n;
+  entries = opened_entries (opening (length es) n f) n f;
+  left = row_left;
+}
 
 -- and its memory: the starting records in the first rows, and the others as they were
-abbrev pub rows_opened : Result (Unit {0}) Refusal → ℕ → ℕ → List Entry → List Entry
-rows_opened r n f es = opened_entries r n f ++ drop (opened_sites r n) es
+abbrev pub rows_opened : List Entry → ℕ → ℕ → List Entry
+rows_opened es n f = (row_opened es n f).entries ++ drop (row_opened es n f).sites es

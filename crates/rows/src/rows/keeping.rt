@@ -58,8 +58,8 @@ impl<'a> RowVault<'a> {
 
     // A vault with the starting record of each site; one of 0 sites where the check refuses.
     pub fn new(rows: &'a mut [Record], sites: u32, first: Site) -> RowVault<'a>
-        ensures stored { row_stored result ≡ row_opened (opening (length rows.old) sites first) sites first }
-        ensures memory { result.rows.now ≡ rows_opened (opening (length rows.old) sites first) sites first rows.old }
+        ensures stored { row_stored result ≡ row_opened rows.old sites first }
+        ensures memory { result.rows.now ≡ rows_opened rows.old sites first }
         ensures lent { result.rows.ghost_name ≡ rows.entry.ghost_name }
     {
         let (Ok(()), Some(own)) = (RowVault::check(rows, sites, first), Record::starting(first))
@@ -73,8 +73,8 @@ impl<'a> RowVault<'a> {
     // The same vault, or why there is none.
     pub fn open(rows: &'a mut [Record], sites: u32, first: Site) -> Result<RowVault<'a>, Refusal>
         ensures answer { MatchResult result (λ _. opening (length rows.old) sites first ≡ Ok tt) (λ e. opening (length rows.old) sites first ≡ Err e) }
-        ensures stored { IfOk result (λ v. row_stored v ≡ row_opened (Ok tt) sites first) }
-        ensures memory { IfOk result (λ v. v.rows.now ≡ rows_opened (Ok tt) sites first rows.old) }
+        ensures stored { IfOk result (λ v. row_stored v ≡ row_opened rows.old sites first) }
+        ensures memory { IfOk result (λ v. v.rows.now ≡ rows_opened rows.old sites first) }
         ensures lent { IfOk result (λ v. v.rows.ghost_name ≡ rows.entry.ghost_name) }
     {
         RowVault::check(rows, sites, first)?;
