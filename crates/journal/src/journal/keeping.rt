@@ -2,7 +2,7 @@ ghost use Rattle.std.specs.Prelude.{◌≡◌, ◌<◌, ◌≤◌, ◌++◌, [],
 ghost use Rattle.rules.specs.World.{no_entry};
 ghost use Rattle.vault.specs.Kept.{write_answer, entries_written, Spent};
 ghost use Rattle.vault.specs.Opening.{opening};
-ghost use Rattle.journal.specs.Slots.{slots_of, last_of, counting_slots};
+ghost use Rattle.journal.specs.Slots.{slots_of, last_of};
 ghost use Rattle.journal.specs.Journal.{used_slots, journal_stored, slots_written, Appended, journal_opened, used_opened, slots_opened};
 ghost use Rattle.journal.specs.Facts.{journal_whole, journal_lawful, appended_alike, appended_chained};
 
@@ -14,13 +14,6 @@ use vault::{Vault, opening};
 
 // The most slots that count.
 const MOST_SLOTS: usize = 65_536;
-
-// How many of that many slots count.
-fn counting(slots: usize) -> usize
-    ensures { result ≡ counting_slots slots }
-{
-    slots.min(MOST_SLOTS)
-}
 
 impl Vault for JournalVault<'_> {
     ghost stored = { journal_stored };
@@ -40,7 +33,7 @@ impl Vault for JournalVault<'_> {
     }
 
     fn left(&self) -> u32 {
-        (counting(self.slots.len()) - self.used) as u32
+        (self.slots.len().min(MOST_SLOTS) - self.used) as u32
     }
 
     fn read(&self, site: Site) -> Result<Record, Refusal> {
@@ -61,7 +54,7 @@ impl Vault for JournalVault<'_> {
         if site >= self.sites {
             return Err(Refusal::UnknownSite);
         }
-        if self.used == counting(self.slots.len()) {
+        if self.left() == 0 {
             return Err(Refusal::VaultFull);
         }
         self.slots[self.used] = Slot { site, own };
