@@ -1,3 +1,2 @@
-pub mod Replay
 mod Fills
-mod Places
+pub mod Replay

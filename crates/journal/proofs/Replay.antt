@@ -1,71 +1,113 @@
--- The newest records of a journal: one slot more, the last slot, and the first slots.
-use Rattle.std.proofs.Common.{◌≡◌, ℕ, zero, suc, ◌+◌, ◌-◌, ◌<◌, ◌≤◌, List, [], ◌∷◌, ◌++◌, map, length, get_or, take, set, replicate, sym, ap, ◌∙◌, ⊎_elim, arith, length-take, get_or-set_other, get_or-take, get_or-set_same}
-use lib.ListN.{length-map}
-use lib.Seq.{map-set, take-set-le}
-use Rattle.std.proofs.lemmas.List.FromFn.{get_or-range_with_len}
-use Rattle.std.proofs.lemmas.List.{get_or-map, take_more_set}
-use Rattle.std.proofs.lemmas.List.Sums.{fold_push, fold_more}
+-- The newest records of a journal, and the slots that they are in.
+use Rattle.std.proofs.Common.{◌≡◌, ℕ, zero, suc, Bor, ◌+◌, ◌-◌, ◌<◌, ◌≤◌, Some, None, Option, List, [], ◌∷◌, ◌++◌, length, get_or, take, drop, replicate, refl, sym, ap, ap₂, subst, ◌∙◌, ⊎_elim, arith, length-set, get_or-set_other, get_or-set_same}
+use Rattle.std.specs.List.{fold}
+use Rattle.std.specs.Option.{option_map, option_or, unwrap_or}
+use Rattle.std.proofs.lemmas.List.{drop-take, take-append-drop, take-take}
+use Rattle.std.proofs.lemmas.List.Folds.{find-append}
+use Rattle.std.proofs.lemmas.List.Sums.{fold_more, fold-append}
 use Rattle.std.proofs.lemmas.Bool.{cases_eq}
-use Rattle.rules.specs.Entries.{plain}
+use Rattle.std.proofs.lemmas.Bool.Decides.{nat_tests}
+use Rattle.std.proofs.lemmas.Grind.{common_steps, reverse_onto}
+use Rattle.rules.specs.Entries.{Entry}
 use Rattle.rules.specs.World.{no_entry}
 use Rattle.journal.specs.Facts.{length_newest}
-use Rattle.journal.specs.Slots.{written, plain_slot, plain_slots, site_of, InOrder, put, newest}
+use Rattle.journal.specs.Slots.{InOrder, put, newest, last_of}
 use Rattle.journal.specs.declared.slot.Slot.{Slot}
 
--- one slot more
-pub slots_push : (xs : List Slot) (i : ℕ) (x : Slot) → i < length xs → take (i + 1) (plain_slots (set xs i x)) ≡ take i (plain_slots xs) ++ (plain_slot x ∷ [])
-slots_push xs i x h =
-    ap (take (i + 1)) (map-set plain_slot xs i x)
-    ∙ take_more_set (plain_slots xs) i (plain_slot x) (omega (arith, length-map xs plain_slot))
+-- the record of a slot, where there is one
+abbrev pub own_or : Option Slot → Entry → Entry
+own_or (Some x) e = x.own
+own_or None e = e
 
-pub newest_push : (n : ℕ) (xs : List Slot) (i : ℕ) (x : Slot) → i < length xs → newest n (take (i + 1) (plain_slots (set xs i x))) ≡ set (newest n (take i (plain_slots xs))) x.site (plain x.own)
-newest_push n xs i x h =
-    ap (newest n) (slots_push xs i x h) ∙ fold_push put (replicate n no_entry) (take i (plain_slots xs)) (plain_slot x)
+pub own_or-unwrap : (o : Option (Bor Slot)) (r : Bor Slot) → (unwrap_or o r).now.own ≡ own_or (option_map (λ x. x.now) o) r.now.own
+own_or-unwrap (Some x) r = refl
+own_or-unwrap None r = refl
 
-module _ (n : ℕ) (xs : List Slot) (i s : ℕ) (x : Slot) (some : 0 < i) (within : i ≤ length xs) where
-  last : newest n (take i (plain_slots xs)) ≡ put (newest n (take (i - 1) (plain_slots xs))) (plain_slot (get_or xs (i - 1) x))
-  last =
-      let e : i ≡ i - 1 + 1 = omega arith in
-      ap (λ j. newest n (take j (plain_slots xs))) e
-      ∙ fold_more put (replicate n no_entry) (plain_slots xs) (i - 1) (written 0 no_entry) (omega (arith, length-map xs plain_slot))
-      ∙ ap (put (newest n (take (i - 1) (plain_slots xs)))) (get_or-map plain_slot xs (i - 1) x (written 0 no_entry) (omega arith))
+own_or-or : (o p : Option Slot) (e : Entry) → own_or (option_or o p) e ≡ own_or o (own_or p e)
+own_or-or (Some x) p e = refl
+own_or-or None p e = refl
 
-  -- the last slot is of another site
-  pub back_other : ((get_or xs (i - 1) x).site ≡ s → ⊥) → get_or (newest n (take i (plain_slots xs))) s no_entry ≡ get_or (newest n (take (i - 1) (plain_slots xs))) s no_entry
-  back_other ne = ap (λ es. get_or es s no_entry) last ∙ get_or-set_other _ _ s _ no_entry (λ e. ne (sym e))
+last_of-cons : (s : ℕ) (x : Slot) (xs : List Slot) → last_of s (x ∷ xs) ≡ option_or (last_of s xs) (last_of s (x ∷ []))
+last_of-cons s x xs = grind (arith, find-append, reverse_onto)
 
-  -- the last slot is of the site
-  pub back_here : (get_or xs (i - 1) x).site ≡ s → s < n → get_or (newest n (take i (plain_slots xs))) s no_entry ≡ plain (get_or xs (i - 1) x).own
-  back_here here known =
-      let y = get_or xs (i - 1) x in
-      ap (λ es. get_or es s no_entry) last
-      ∙ ap (λ j. get_or (set (newest n (take (i - 1) (plain_slots xs))) j (plain y.own)) s no_entry) here
-      ∙ get_or-set_same (newest n (take (i - 1) (plain_slots xs))) s (plain y.own) no_entry (omega (arith, length_newest n (take (i - 1) (plain_slots xs))))
+-- one slot more is the newest of its site, and of no other
+put_at : (s : ℕ) (es : List Entry) (x : Slot) → s < length es → get_or (put es x) s no_entry ≡ own_or (last_of s (x ∷ [])) (get_or es s no_entry)
+put_at s es x h = grind (arith, common_steps, nat_tests)
 
--- where the first slots are in order, the slot s is of the site s
-pub in_order_at : (n : ℕ) (xs : List Slot) (s : ℕ) (x : Slot) → InOrder n xs → n ≤ length xs → s < n → (get_or xs s x).site ≡ s
-in_order_at n xs s x e h l =
-    ap site_of (sym (get_or-take n xs s x l))
-    ∙ sym (get_or-map site_of (take n xs) s x 0 (omega (arith, length-take n xs)))
-    ∙ ap (λ (ks : List ℕ). get_or ks s 0) e ∙ get_or-range_with_len 0 n s 0 l ∙ omega arith
+-- the newest record of a site is in its last slot
+pub found_back : (s : ℕ) (xs : List Slot) (es : List Entry) → s < length es → get_or (fold put es xs) s no_entry ≡ own_or (last_of s xs) (get_or es s no_entry)
+found_back s [] es h = refl
+found_back s (x ∷ xs) es h =
+    let e = get_or es s no_entry in
+    found_back s xs (put es x) (omega (arith, length-set es x.site x.own))
+    ∙ ap (own_or (last_of s xs)) (put_at s es x h)
+    ∙ sym (own_or-or (last_of s xs) (last_of s (x ∷ [])) e)
+    ∙ ap (λ o. own_or o e) (sym (last_of-cons s x xs))
 
--- a later slot leaves that order
-pub in_order_set : (n : ℕ) (xs : List Slot) (i : ℕ) (x : Slot) → n ≤ i → InOrder n xs → InOrder n (set xs i x)
-in_order_set n xs i x h e = ap (map site_of) (take-set-le n xs i x h) ∙ e
+-- among the first i slots there is a newest of the site s, and its record is the one that is left
+pub record Found (n : ℕ) (xs : List Slot) (i s : ℕ) (d : Slot) : Type 0 where
+  pub at : ℕ
+  pub within : at < i
+  pub owner : (get_or xs at d).site ≡ s
+  pub last : (j : ℕ) → at < j → j < i → (get_or xs j d).site ≡ s → ⊥
+  pub left : get_or (newest n (take i xs)) s no_entry ≡ (get_or xs at d).own
 
--- of the first k slots it is the newest of that site
-pub first_at : (n : ℕ) (xs : List Slot) (k s : ℕ) (x : Slot) → InOrder n xs → n ≤ length xs → k ≤ n → s < k → get_or (newest n (take k (plain_slots xs))) s no_entry ≡ plain (get_or xs s x).own
-first_at n xs zero s x e h m l = absurd (omega arith)
-first_at n xs (suc k) s x e h m l =
-    let here : suc k - 1 ≡ k = omega arith in
-    ⊎_elim
-    (λ (same : k ≡ s).
-    back_here n xs (suc k) s x (omega arith) (omega arith)
-    (ap (λ j. (get_or xs j x).site) here ∙ in_order_at n xs k x e h (omega arith) ∙ same) (omega arith)
-    ∙ ap (λ j. plain (get_or xs j x).own) (here ∙ same))
-    (λ (other : k ≡ s → ⊥).
-    back_other n xs (suc k) s x (omega arith) (omega arith)
-    (λ is. other (sym (ap (λ j. (get_or xs j x).site) here ∙ in_order_at n xs k x e h (omega arith)) ∙ is))
-    ∙ ap (λ j. get_or (newest n (take j (plain_slots xs))) s no_entry) here
-    ∙ first_at n xs k s x e h (omega arith) (omega arith))
-    (cases_eq k s)
+module _ (n : ℕ) (xs : List Slot) (s : ℕ) (d : Slot) (known : s < n) where
+  -- one slot more, of the site
+  found_here : (i : ℕ) → i < length xs → (get_or xs i d).site ≡ s → Found n xs (i + 1) s d
+  found_here i h same = record {
+    at = i;
+    within = omega arith;
+    owner = same;
+    last = λ j a b. absurd (omega arith);
+    left =
+        let es = newest n (take i xs) in
+        let x = get_or xs i d in
+        ap (λ t. get_or t s no_entry) (fold_more put (replicate n no_entry) xs i d h)
+        ∙ ap (λ k. get_or (put es (record { site = k; own = x.own })) s no_entry) same
+        ∙ get_or-set_same es s x.own no_entry (omega (arith, length_newest n (take i xs)));
+  }
+
+  -- one slot more, of another site
+  found_before : (i : ℕ) → i < length xs → ((get_or xs i d).site ≡ s → ⊥) → Found n xs i s d → Found n xs (i + 1) s d
+  found_before i h other f = record {
+    at = f.at;
+    within = omega (arith, f.within);
+    owner = f.owner;
+    last = λ j a b is.
+        ⊎_elim (λ (e : j ≡ i). other (ap (λ k. (get_or xs k d).site) (sym e) ∙ is)) (λ (e : j ≡ i → ⊥). f.last j a (omega arith) is) (cases_eq j i);
+    left =
+        ap (λ t. get_or t s no_entry) (fold_more put (replicate n no_entry) xs i d h)
+        ∙ get_or-set_other (newest n (take i xs)) (get_or xs i d).site s (get_or xs i d).own no_entry (λ e. other (sym e))
+        ∙ f.left;
+  }
+
+  -- the first n slots are in order, so there is one once they are read
+  pub newest_below : InOrder n xs → (i : ℕ) → i ≤ length xs → s < i → Found n xs i s d
+  newest_below e zero m g = absurd (omega arith)
+  newest_below e (suc i) m g =
+      subst (λ k. Found n xs k s d) (omega arith)
+      (⊎_elim (λ (same : (get_or xs i d).site ≡ s). found_here i (omega arith) same)
+      (λ (other : (get_or xs i d).site ≡ s → ⊥).
+      let apart : s ≡ i → ⊥ = λ is. other (ap (λ k. (get_or xs k d).site) (sym is) ∙ e s d known) in
+      found_before i (omega arith) other (newest_below e i (omega arith) (omega arith)))
+      (cases_eq (get_or xs i d).site s))
+
+-- of the first n slots it is the one in order
+pub first_at : (n : ℕ) (xs : List Slot) (s : ℕ) (d : Slot) → s < n → InOrder n xs → n ≤ length xs → get_or (newest n (take n xs)) s no_entry ≡ (get_or xs s d).own
+first_at n xs s d l e h =
+    let f = newest_below n xs s d l e n h l in
+    f.left ∙ ap (λ k. (get_or xs k d).own) (sym (e f.at d f.within) ∙ f.owner)
+
+-- and of the first u slots the last one behind those, if there is one
+pub newest_at : (n u : ℕ) (xs : List Slot) (s : ℕ) (d : Slot) → s < n → InOrder n xs → n ≤ u → u ≤ length xs → get_or (newest n (take u xs)) s no_entry ≡ own_or (last_of s (take (u - n) (drop n xs))) (get_or xs s d).own
+newest_at n u xs s d l e h m =
+    let later = take (u - n) (drop n xs) in
+    let all : n + (u - n) ≡ u = omega arith in
+    let split : take u xs ≡ take n xs ++ later =
+    sym (take-append-drop n (take u xs))
+    ∙ ap₂ ◌++◌ (take-take n u xs h) (ap (λ k. drop n (take k xs)) (sym all) ∙ drop-take n (u - n) xs) in
+    ap (λ t. get_or (newest n t) s no_entry) split
+    ∙ ap (λ t. get_or t s no_entry) (fold-append put (replicate n no_entry) (take n xs) later)
+    ∙ found_back s later (newest n (take n xs)) (omega (arith, length_newest n (take n xs)))
+    ∙ ap (own_or (last_of s later)) (first_at n xs s d l e (omega arith))

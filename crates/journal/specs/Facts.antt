@@ -1,52 +1,42 @@
 -- A journal vault has one lawful record for each site, and its memory is only appended to.
-use Rattle.std.specs.Prelude.{◌≡◌, ℕ, zero, suc, ◌+◌, ◌-◌, ◌≤◌, List, [], ◌∷◌, length, take, drop, replicate, fold, slice_index_or, slice_set, refl}
-use Rattle.std.proofs.Common.{sym, ap, ◌∙◌, arith, length-set, take-take, drop-drop}
-use Rattle.std.proofs.lemmas.List.{length-replicate}
-use Rattle.rules.specs.Entries.{Entry, plain, Lawful}
+use Rattle.std.specs.Prelude.{◌≡◌, ℕ, ◌+◌, ◌-◌, ◌≤◌, List, [], ◌∷◌, length, take, drop, replicate, slice_index_or, refl}
+use Rattle.std.specs.List.{All, fold}
+use Rattle.std.proofs.Common.{sym, ap, subst, ◌∙◌, ⊎_elim, arith, length-set, take-take, drop-drop}
+use Rattle.std.proofs.lemmas.Bool.{cases_lt}
+use Rattle.std.proofs.lemmas.List.{get_or_past, length-replicate}
+use Rattle.std.proofs.lemmas.List.Elements.{All-head, All-replicate, All-set, All-tail}
+use Rattle.rules.specs.Entries.{Entry, Lawful}
 use Rattle.rules.specs.World.{no_entry}
 use Rattle.journal.specs.Journal.{journal_stored, used_slots, Appended}
-use Rattle.journal.specs.Slots.{Written, plain_slot, plain_slots, put, newest}
+use Rattle.journal.specs.Slots.{LawfulSlot, put, newest}
 use Rattle.journal.specs.declared.journal.JournalVault.{JournalVault}
 use Rattle.journal.specs.declared.slot.Slot.{Slot}
 
-length_folded : (ws : List Written) (es : List Entry) → length (fold put es ws) ≡ length es
+length_folded : (xs : List Slot) (es : List Entry) → length (fold put es xs) ≡ length es
 length_folded [] es = refl
-length_folded (w ∷ ws) es = length_folded ws (put es w) ∙ length-set es w.site w.entry
+length_folded (x ∷ xs) es = length_folded xs (put es x) ∙ length-set es x.site x.own
 
-pub length_newest : (n : ℕ) (ws : List Written) → length (newest n ws) ≡ n
-length_newest n ws = length_folded ws (replicate n no_entry) ∙ length-replicate n no_entry
+pub length_newest : (n : ℕ) (xs : List Slot) → length (newest n xs) ≡ n
+length_newest n xs = length_folded xs (replicate n no_entry) ∙ length-replicate n no_entry
 
 pub journal_whole : (v : JournalVault) → length (journal_stored v).entries ≡ (journal_stored v).sites
 journal_whole v = length_newest v.sites (used_slots v)
 
--- every record of the list is lawful
-abbrev AllLawful : List Entry → Type 0
-AllLawful es = (s : ℕ) → Lawful (slice_index_or es s no_entry)
-
 lawful_none : Lawful no_entry
 lawful_none = (omega arith, omega arith, omega arith, omega arith)
 
-lawful_start : (n : ℕ) → AllLawful (replicate n no_entry)
-lawful_start zero s = lawful_none
-lawful_start (suc n) zero = lawful_none
-lawful_start (suc n) (suc s) = lawful_start n s
-
-lawful_set : (es : List Entry) (i : ℕ) (e : Entry) → Lawful e → AllLawful es → AllLawful (slice_set es i e)
-lawful_set [] i e l h s = h s
-lawful_set (x ∷ es) zero e l h zero = l
-lawful_set (x ∷ es) zero e l h (suc s) = h (suc s)
-lawful_set (x ∷ es) (suc i) e l h zero = h zero
-lawful_set (x ∷ es) (suc i) e l h (suc s) = lawful_set es i e l (λ k. h (suc k)) s
-
-lawful_folded : (xs : List Slot) (u : ℕ) (es : List Entry) → AllLawful es → AllLawful (fold put es (take u (plain_slots xs)))
-lawful_folded xs zero es h = h
-lawful_folded [] (suc u) es h = h
-lawful_folded (x ∷ xs) (suc u) es h =
-    lawful_folded xs u (put es (plain_slot x))
-    (lawful_set es x.site (plain x.own) (x.own.counted, x.own.bounded, x.own.tried, x.own.led) h)
+lawful_folded : (xs : List Slot) (es : List Entry) → All LawfulSlot xs → All Lawful es → All Lawful (fold put es xs)
+lawful_folded [] es h l = l
+lawful_folded (x ∷ xs) es h l =
+    lawful_folded xs (put es x) (All-tail LawfulSlot x xs h) (All-set Lawful es x.site x.own (All-head LawfulSlot x xs h) l)
 
 pub journal_lawful : (v : JournalVault) (s : ℕ) → Lawful (slice_index_or (journal_stored v).entries s no_entry)
-journal_lawful v s = lawful_folded v.slots.now v.used (replicate v.sites no_entry) (lawful_start v.sites) s
+journal_lawful v s =
+    let start = replicate v.sites no_entry in
+    let es = (journal_stored v).entries in
+    ⊎_elim
+    (lawful_folded (used_slots v) start v.written (All-replicate Lawful v.sites no_entry lawful_none) s no_entry)
+    (λ h. subst Lawful (sym (get_or_past es s no_entry h)) lawful_none) (cases_lt s (length es))
 
 pub appended_alike : (v : JournalVault) → Appended v v
 appended_alike v = record { memory = refl; size = refl; sites = refl; grown = omega arith; before = refl; after = refl }

@@ -2,18 +2,15 @@
 use Rattle.std.specs.Prelude.{◌≡◌, ℕ, ◌-◌, ◌≤◌, List, [], ◌∷◌, ◌++◌, length, take, drop, Ok, Err, Result}
 use Rattle.sites.specs.declared.refusal.Refusal.{Refusal}
 use Rattle.rules.specs.Entries.{Entry, starting}
-use Rattle.journal.specs.Slots.{Written, written, plain_slots, written_each, counting_slots, newest}
+use Rattle.rules.specs.World.{Stored}
+use Rattle.vault.specs.Opening.{opening, opened_sites, opened_entries}
+use Rattle.journal.specs.Slots.{slot, slots_of, counting_slots, newest}
 use Rattle.journal.specs.declared.journal.JournalVault.{JournalVault}
+use Rattle.journal.specs.declared.slot.Slot.{Slot}
 
 -- the used slots, the oldest first
-abbrev pub used_slots : JournalVault → List Written
-used_slots v = take v.used (plain_slots v.slots.now)
-
--- what a vault holds: the number of sites, their records, and how many writes are left at least
-pub record Stored : Type 0 where
-  pub sites : ℕ
-  pub entries : List Entry
-  pub left : ℕ
+abbrev pub used_slots : JournalVault → List Slot
+used_slots v = take v.used v.slots.now
 
 -- the newest record of each site, and the slots that are not used
 abbrev pub journal_stored : JournalVault → Stored
@@ -24,9 +21,9 @@ journal_stored v = record {
 }
 
 -- a write that is not refused takes the next slot
-abbrev pub slots_written : Result (Unit {0}) Refusal → ℕ → Entry → List Written → List Written
-slots_written (Ok u) s e ws = ws ++ (written s e ∷ [])
-slots_written (Err x) s e ws = ws
+abbrev pub slots_written : Result (Unit {0}) Refusal → ℕ → Entry → List Slot → List Slot
+slots_written (Ok u) s e xs = xs ++ (slot s e ∷ [])
+slots_written (Err x) s e xs = xs
 
 -- the same memory, appended to: the slots used before are as they were, and so are those that are not used yet
 pub record Appended (v v' : JournalVault) : Type 0 where
@@ -37,17 +34,22 @@ pub record Appended (v v' : JournalVault) : Type 0 where
   pub before : take v.used v'.slots.now ≡ take v.used v.slots.now
   pub after : drop v'.used v'.slots.now ≡ drop v'.used v.slots.now
 
--- what the starting records leave of k slots
-abbrev pub opened_left : Result (Unit {0}) Refusal → ℕ → ℕ → ℕ
-opened_left (Ok u) n k = counting_slots k - n
-opened_left (Err x) n k = counting_slots k
+-- for how many sites a new vault is that is asked for n sites under the first coordinator f on the memory xs
+abbrev pub new_sites : List Slot → ℕ → ℕ → ℕ
+new_sites xs n f = opened_sites (opening (length xs) n f) n
 
--- the starting record of each site, in the order of the sites
-abbrev pub opened_used : Result (Unit {0}) Refusal → ℕ → ℕ → List Written
-opened_used (Ok u) n f = written_each n (starting f)
-opened_used (Err x) n f = []
+-- what it holds
+abbrev pub journal_opened : List Slot → ℕ → ℕ → Stored
+journal_opened xs n f = record {
+  sites = new_sites xs n f;
+  entries = opened_entries (opening (length xs) n f) n f;
+  left = counting_slots (length xs) - new_sites xs n f;
+}
 
--- these in the first slots, and the others as they were
-abbrev pub opened_slots : Result (Unit {0}) Refusal → ℕ → ℕ → List Written → List Written
-opened_slots (Ok u) n f ws = written_each n (starting f) ++ drop n ws
-opened_slots (Err x) n f ws = ws
+-- its used slots: the starting record of each site, in the order of the sites
+abbrev pub used_opened : List Slot → ℕ → ℕ → List Slot
+used_opened xs n f = slots_of (new_sites xs n f) (starting f)
+
+-- and its memory: these in the first slots, and the others as they were
+abbrev pub slots_opened : List Slot → ℕ → ℕ → List Slot
+slots_opened xs n f = used_opened xs n f ++ drop (new_sites xs n f) xs

@@ -1,11 +1,13 @@
-ghost use Rattle.std.specs.Prelude.{◌≤◌, length};
-ghost use Rattle.journal.specs.Slots.{counting_slots, InOrder};
+ghost use Rattle.std.specs.Prelude.{◌≤◌, length, take};
+ghost use Rattle.std.specs.List.{All};
+ghost use Rattle.journal.specs.Slots.{counting_slots, InOrder, LawfulSlot};
 
 mod keeping;
 
 use crate::slot::Slot;
 
 // A vault on the caller's memory, of which the first 65,536 slots count. A used slot is never written again.
+// Memory is fixed and lent, so the number of used slots stands beside it.
 #[derive(Drop)]
 pub struct JournalVault<'a> {
     slots: &'a mut [Slot],
@@ -15,4 +17,6 @@ pub struct JournalVault<'a> {
     ghost held: { used ≤ counting_slots (length slots.now) },
     ghost begun: { sites ≤ used },
     ghost ordered: { InOrder sites slots.now },
+    // The caller's memory may hold anything; the used slots hold records that code wrote.
+    ghost written: { All LawfulSlot (take used slots.now) },
 }

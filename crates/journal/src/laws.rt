@@ -1,16 +1,12 @@
-// Laws of journals. Each is the contract of a function whose result means nothing.
+// Laws of journals. Each is the contract of a function that does nothing.
 ghost use Rattle.journal.specs.Laws.{AppendOnly, NewestCounts};
 
 // A used slot is never written again.
-pub fn append_only() -> u8
+pub fn append_only()
     ensures { AppendOnly }
-{
-    0
-}
+{}
 
 // The record of a site is that of its newest slot.
-pub fn newest_counts() -> u8
+pub fn newest_counts()
     ensures { NewestCounts }
-{
-    0
-}
+{}

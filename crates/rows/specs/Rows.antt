@@ -1,28 +1,17 @@
 -- A row vault by its memory.
-use Rattle.std.specs.Prelude.{◌≡◌, ℕ, cond, List, [], ◌++◌, map, take, drop, replicate, Ok, Err, Result, nat_le}
-use Rattle.sites.specs.Sets.{seated}
-use Rattle.sites.specs.declared.refusal.Refusal.{Refusal}
-use Rattle.sites.specs.declared.refusal.Refusal.TheVariants as refusal
-use Rattle.rules.specs.Entries.{Entry, plain, starting}
-use Rattle.rules.specs.declared.record.Record.{Record}
+use Rattle.std.specs.Prelude.{◌≡◌, ℕ, List, ◌++◌, length, take, drop}
+use Rattle.rules.specs.Entries.{Entry}
+use Rattle.rules.specs.World.{Stored}
+use Rattle.vault.specs.Opening.{opening, opened_sites, opened_entries}
 use Rattle.rows.specs.declared.rows.RowVault.{RowVault}
-
-abbrev pub plain_row : Record → Entry
-plain_row r = plain r
-
-abbrev pub plain_rows : List Record → List Entry
-plain_rows rs = map plain_row rs
-
-abbrev pub row_sites : RowVault → ℕ
-row_sites v = v.sites
 
 -- what is left, always
 abbrev pub row_left : ℕ
 row_left = 1000000
 
 -- the records are in the first rows
-abbrev pub row_entries : RowVault → List Entry
-row_entries v = take v.sites (plain_rows v.rows.now)
+abbrev pub row_stored : RowVault → Stored
+row_stored v = record { sites = v.sites; entries = take v.sites v.rows.now; left = row_left }
 
 -- the same memory, with the rows past the last site as they were
 abbrev pub SameMemory : RowVault → RowVault → Type 0
@@ -31,23 +20,14 @@ SameMemory v v' =
     × (v'.sites ≡ v.sites)
     × (drop v.sites v'.rows.now ≡ drop v.sites v.rows.now)
 
--- the check of a memory of k rows for n sites under the first coordinator f
-abbrev pub opening : ℕ → ℕ → ℕ → Result (Unit {0}) Refusal
-opening k n f =
-    cond (seated n f)
-    (cond (nat_le n k) (Ok tt) (Err refusal.VaultFull))
-    (Err refusal.SiteCount)
+-- what a new vault for n sites under the first coordinator f holds, on the memory es
+abbrev pub row_opened : List Entry → ℕ → ℕ → Stored
+row_opened es n f = record {
+  sites = opened_sites (opening (length es) n f) n;
+  entries = opened_entries (opening (length es) n f) n f;
+  left = row_left;
+}
 
-abbrev pub opened_sites : Result (Unit {0}) Refusal → ℕ → ℕ
-opened_sites (Ok u) n = n
-opened_sites (Err x) n = 0
-
--- the starting record of each site
-abbrev pub opened_entries : Result (Unit {0}) Refusal → ℕ → ℕ → List Entry
-opened_entries (Ok u) n f = replicate n (starting f)
-opened_entries (Err x) n f = []
-
--- starting records in the first rows, and the others as they were
-abbrev pub opened_rows : Result (Unit {0}) Refusal → ℕ → ℕ → List Entry → List Entry
-opened_rows (Ok u) n f es = replicate n (starting f) ++ drop n es
-opened_rows (Err x) n f es = es
+-- and its memory: the starting records in the first rows, and the others as they were
+abbrev pub rows_opened : List Entry → ℕ → ℕ → List Entry
+rows_opened es n f = (row_opened es n f).entries ++ drop (row_opened es n f).sites es

@@ -1,13 +1,18 @@
-ghost use Rattle.std.specs.Prelude.{ℕ, ◌≤◌, length};
+ghost use Rattle.std.specs.Prelude.{◌≤◌, length, take};
+ghost use Rattle.std.specs.List.{All};
+ghost use Rattle.rules.specs.Entries.{Lawful};
 
 mod keeping;
 
 use rules::record::Record;
 
 // A vault on the first rows of the caller's memory; it never touches the rows past its last site.
+// Memory is fixed and lent, so the number of rows that are the vault's stands beside it.
 #[derive(Drop)]
 pub struct RowVault<'a> {
     rows: &'a mut [Record],
     sites: u32,
     ghost held: { sites ≤ length rows.now },
+    // The caller's memory may hold anything; the rows of the sites are records that code wrote.
+    ghost written: { All Lawful (take sites rows.now) },
 }

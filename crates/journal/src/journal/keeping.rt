@@ -1,35 +1,22 @@
-ghost use Rattle.std.specs.Prelude.{◌≡◌, ◌+◌, ◌-◌, ◌<◌, ◌≤◌, [], ◌∷◌, ◌++◌, length, drop, replicate, slice_index_or, slice_set};
-ghost use Rattle.rules.specs.Entries.{plain};
+ghost use Rattle.std.specs.Prelude.{◌≡◌, ◌<◌, ◌≤◌, ◌++◌, [], ◌∷◌, ◌^◌, length, drop, slice_index_or, Ok, Err, IfOk, MatchResult, option_map};
 ghost use Rattle.rules.specs.World.{no_entry};
 ghost use Rattle.vault.specs.Kept.{write_answer, entries_written, Spent};
-ghost use Rattle.vault.specs.Opening.{opening, opened_sites, opened_entries};
-ghost use Rattle.journal.specs.Slots.{written, plain_slots, slots_of, written_each, counting_slots};
-ghost use Rattle.journal.specs.Journal.{used_slots, journal_stored, slots_written, Appended, opened_left, opened_used, opened_slots};
+ghost use Rattle.vault.specs.Opening.{opening};
+ghost use Rattle.journal.specs.Slots.{slots_of, last_of};
+ghost use Rattle.journal.specs.Journal.{used_slots, journal_stored, slots_written, Appended, journal_opened, used_opened, slots_opened};
 ghost use Rattle.journal.specs.Facts.{journal_whole, journal_lawful, appended_alike, appended_chained};
 
 use super::JournalVault;
 use crate::slot::Slot;
 use rules::record::Record;
-use sites::Site;
-use sites::refusal::Refusal;
+use sites::{Refusal, Site};
 use vault::{Vault, opening};
 
 // The most slots that count.
 const MOST_SLOTS: usize = 65_536;
 
-// How many of that many slots count.
-fn counting(slots: usize) -> usize
-    ensures { result ≡ counting_slots slots }
-{
-    slots.min(MOST_SLOTS)
-}
-
 impl Vault for JournalVault<'_> {
-    ghost sites = { λ v. (journal_stored v).sites };
-
-    ghost entries = { λ v. (journal_stored v).entries };
-
-    ghost left = { λ v. (journal_stored v).left };
+    ghost stored = { journal_stored };
 
     ghost whole = { journal_whole };
 
@@ -46,7 +33,7 @@ impl Vault for JournalVault<'_> {
     }
 
     fn left(&self) -> u32 {
-        (counting(self.slots.len()) - self.used) as u32
+        (self.slots.len().min(MOST_SLOTS) - self.used) as u32
     }
 
     fn read(&self, site: Site) -> Result<Record, Refusal> {
@@ -58,60 +45,54 @@ impl Vault for JournalVault<'_> {
 
     // Besides what every vault promises: a write that is not refused takes the next slot.
     fn write(&mut self, site: Site, own: Record) -> Result<(), Refusal>
-        ensures answer { result ≡ write_answer (journal_stored self.old).sites (journal_stored self.old).left site }
-        ensures sites { (journal_stored self.new).sites ≡ (journal_stored self.old).sites }
-        ensures entries { (journal_stored self.new).entries ≡ entries_written result site (plain own) (journal_stored self.old).entries }
+        ensures answer { result ≡ write_answer (journal_stored self.old) site }
+        ensures entries { (journal_stored self.new).entries ≡ entries_written result site own (journal_stored self.old).entries }
         ensures left { Spent result (journal_stored self.old).left (journal_stored self.new).left }
         ensures tied { Appended self.old self.new }
-        ensures slots { used_slots self.new ≡ slots_written result site (plain own) (used_slots self.old) }
+        ensures slots { used_slots self.new ≡ slots_written result site own (used_slots self.old) }
     {
         if site >= self.sites {
             return Err(Refusal::UnknownSite);
         }
-        if self.used == counting(self.slots.len()) {
+        if self.left() == 0 {
             return Err(Refusal::VaultFull);
         }
-        self.append(site, own);
+        self.slots[self.used] = Slot { site, own };
+        self.used += 1;
         Ok(())
     }
 }
 
-// Writes the record for each of the first `count` sites into the first slots.
-fn fill(slots: &mut [Slot], count: u32, own: Record)
-    requires { count ≤ length slots.old }
-    ensures { slots.new ≡ slots_of count own ++ drop count slots.old }
+// Fills the slots with the record, for a site each in the order of the sites.
+fn fill(slots: &mut [Slot], own: Record)
+    requires { length slots.old < 2 ^ 32 }
+    ensures { slots.new ≡ slots_of (length slots.old) own }
 {
-    for site in 0..count {
-        slots[site as usize] = Slot { site, own };
+    for (site, slot) in slots.iter_mut().enumerate() {
+        *slot = Slot {
+            site: site as Site,
+            own,
+        };
     }
 }
 
+// The last slot of a site, if there is one.
+fn last_of(slots: &[Slot], site: Site) -> Option<&Slot>
+    ensures { option_map (λ x. x.now) result ≡ last_of site slots.now }
+{
+    slots.iter().rev().find(|slot| slot.site == site)
+}
+
 impl<'a> JournalVault<'a> {
-    // The record of a known site: its newest one, found from the newest slot back to its starting record.
+    // The record of a known site: its newest one, which is its starting record where it has no other.
     fn newest(&self, site: Site) -> Record
         requires { site < self.now.sites }
-        ensures { plain result ≡ slice_index_or (journal_stored self.now).entries site no_entry }
+        ensures { result ≡ slice_index_or (journal_stored self.now).entries site no_entry }
     {
-        for i in (self.sites as usize..self.used).rev() {
-            let slot = self.slots[i];
-            if slot.site == site {
-                return slot.own;
-            }
-        }
-        self.slots[site as usize].own
-    }
-
-    // Takes the next slot for the record; there is one.
-    fn append(&mut self, site: Site, own: Record)
-        requires { 0 < (journal_stored self.old).left }
-        ensures sites { (journal_stored self.new).sites ≡ (journal_stored self.old).sites }
-        ensures entries { (journal_stored self.new).entries ≡ slice_set (journal_stored self.old).entries site (plain own) }
-        ensures left { (journal_stored self.old).left ≡ (journal_stored self.new).left + 1 }
-        ensures tied { Appended self.old self.new }
-        ensures slots { used_slots self.new ≡ used_slots self.old ++ (written site (plain own) ∷ []) }
-    {
-        self.slots[self.used] = Slot { site, own };
-        self.used += 1;
+        let slots = &*self.slots;
+        last_of(&slots[self.sites as usize..self.used], site)
+            .unwrap_or(&slots[site as usize])
+            .own
     }
 
     // Would a vault for that many sites under that first coordinator have room in the memory?
@@ -121,31 +102,11 @@ impl<'a> JournalVault<'a> {
         opening::check(slots.len(), sites, first)
     }
 
-    // A vault with this record for each site, in the first slots.
-    fn started(slots: &'a mut [Slot], sites: u32, own: Record) -> JournalVault<'a>
-        requires { sites ≤ counting_slots (length slots.old) }
-        ensures sites { (journal_stored result).sites ≡ sites }
-        ensures entries { (journal_stored result).entries ≡ replicate sites (plain own) }
-        ensures left { (journal_stored result).left ≡ counting_slots (length slots.old) - sites }
-        ensures used { used_slots result ≡ written_each sites (plain own) }
-        ensures memory { plain_slots result.slots.now ≡ written_each sites (plain own) ++ drop sites (plain_slots slots.old) }
-        ensures lent { result.slots.ghost_name ≡ slots.entry.ghost_name }
-    {
-        fill(slots, sites, own);
-        JournalVault {
-            slots,
-            used: sites as usize,
-            sites,
-        }
-    }
-
     // A vault with the starting record of each site; one of 0 sites where the check refuses.
     pub fn new(slots: &'a mut [Slot], sites: u32, first: Site) -> JournalVault<'a>
-        ensures sites { (journal_stored result).sites ≡ opened_sites (opening (length slots.old) sites first) sites }
-        ensures entries { (journal_stored result).entries ≡ opened_entries (opening (length slots.old) sites first) sites first }
-        ensures left { (journal_stored result).left ≡ opened_left (opening (length slots.old) sites first) sites (length slots.old) }
-        ensures used { used_slots result ≡ opened_used (opening (length slots.old) sites first) sites first }
-        ensures memory { plain_slots result.slots.now ≡ opened_slots (opening (length slots.old) sites first) sites first (plain_slots slots.old) }
+        ensures stored { journal_stored result ≡ journal_opened slots.old sites first }
+        ensures used { used_slots result ≡ used_opened slots.old sites first }
+        ensures memory { result.slots.now ≡ slots_opened slots.old sites first }
         ensures lent { result.slots.ghost_name ≡ slots.entry.ghost_name }
     {
         let (Ok(()), Some(own)) = (
@@ -158,6 +119,23 @@ impl<'a> JournalVault<'a> {
                 sites: 0,
             };
         };
-        JournalVault::started(slots, sites, own)
+        fill(&mut slots[..sites as usize], own);
+        JournalVault {
+            slots,
+            used: sites as usize,
+            sites,
+        }
+    }
+
+    // The same vault, or why there is none.
+    pub fn open(slots: &'a mut [Slot], sites: u32, first: Site) -> Result<JournalVault<'a>, Refusal>
+        ensures answer { MatchResult result (λ _. opening (length slots.old) sites first ≡ Ok tt) (λ e. opening (length slots.old) sites first ≡ Err e) }
+        ensures stored { IfOk result (λ v. journal_stored v ≡ journal_opened slots.old sites first) }
+        ensures used { IfOk result (λ v. used_slots v ≡ used_opened slots.old sites first) }
+        ensures memory { IfOk result (λ v. v.slots.now ≡ slots_opened slots.old sites first) }
+        ensures lent { IfOk result (λ v. v.slots.ghost_name ≡ slots.entry.ghost_name) }
+    {
+        JournalVault::check(slots, sites, first)?;
+        Ok(JournalVault::new(slots, sites, first))
     }
 }

@@ -1,9 +1,9 @@
 use Rattle.std.proofs.Common.{arith}
-use Rattle.journal.proofs.Places.{newest_below}
+use Rattle.journal.proofs.Replay.{newest_below}
 use Rattle.journal.proofs.laws.newest_counts.Goals as goal
 
 pub returns : goal.returns
 returns c =
     λ v s d l.
-    let m = newest_below v.sites v.slots.now v.used s d v.ordered v.begun (omega (arith, v.held)) l in
-    (m.0, (record { within = m.1.0; owner = m.1.1; last = m.1.2 }, m.1.3))
+    let f = newest_below v.sites v.slots.now s d l v.ordered v.used (omega (arith, v.held)) (omega (arith, v.begun)) in
+    (f.at, (record { within = f.within; owner = f.owner; last = f.last }, f.left))

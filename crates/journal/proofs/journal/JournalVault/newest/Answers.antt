@@ -1,25 +1,15 @@
-use Rattle.std.proofs.Common.{◌≡◌, get_or, take, sym, ap, ◌∙◌, arith}
-use Rattle.rules.specs.World.{no_entry}
-use Rattle.journal.specs.Slots.{newest, plain_slots}
-use Rattle.journal.proofs.Replay.{back_other, back_here, first_at}
+use Rattle.std.proofs.Common.{take, drop, ◌-◌, sym, ap, ◌∙◌, arith}
+use Rattle.journal.specs.Slots.{last_of}
+use Rattle.journal.proofs.Replay.{own_or, own_or-unwrap, newest_at}
 use Rattle.journal.proofs.journal.JournalVault.newest.Goals as goal
-
-pub loop-i-preserved : goal.loop-i-preserved
-loop-i-preserved c =
-    let v = c.args.self.now in
-    (omega arith, c.loop-i.invariant.1 ∙ back_other v.sites v.slots.now c.loop-i.i c.args.site _ (omega arith) (omega arith) c.if-slot-site.false)
-
-pub returns-then-slot-site : goal.returns-then-slot-site
-returns-then-slot-site c =
-    let v = c.args.self.now in
-    let h = back_here v.sites v.slots.now c.loop-i.i c.args.site _ (omega arith) (omega arith) c.if-slot-site.true (omega arith) in
-    sym (c.loop-i.invariant.1 ∙ h)
 
 pub returns : goal.returns
 returns c =
     let v = c.args.self.now in
     let xs = v.slots.now in
-    let end : c.loop-i.i ≡ v.sites = omega arith in
-    sym
-    (c.loop-i.invariant.1 ∙ ap (λ i. get_or (newest v.sites (take i (plain_slots xs))) c.args.site no_entry) end
-    ∙ first_at v.sites xs v.sites c.args.site _ v.ordered (omega arith) (omega arith) (omega arith))
+    let s = c.args.site in
+    let x = c.index-slots-site.result in
+    let later = last_of s (take (v.used - v.sites) (drop v.sites xs)) in
+    ap (λ r. r.now.own) c.unwrap_or.ensures ∙ own_or-unwrap c.last_of.result _ ∙ ap (λ o. own_or o x.own) c.last_of.ensures
+    ∙ ap (λ y. own_or later y.own) c.index-slots-site.is
+    ∙ sym (newest_at v.sites v.used xs s x c.requires v.ordered v.begun (omega (arith, v.held)))

@@ -1,6 +1,6 @@
-use Rattle.std.proofs.Common.{drop-set-lt, rules}
-use lib.Seq.{map-set, take-set-lt}
+use Rattle.std.proofs.Common.{rules}
+use Rattle.std.proofs.Math.Seq.{take-set-lt}
 use Rattle.rows.proofs.rows.keeping.RowVaultVault.write.Goals as goal
 
-pub returns : goal.returns
-returns c = search (rules, map-set, take-set-lt, drop-set-lt)
+pub returns-clause-entries : goal.returns-clause-entries
+returns-clause-entries c = search (rules, take-set-lt)

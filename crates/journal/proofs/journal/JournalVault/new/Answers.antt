@@ -1,0 +1,9 @@
+use Rattle.std.proofs.Common.{rules}
+use Rattle.journal.proofs.Fills.{filled_length, filled_order, filled_lawful, filled_entries}
+use Rattle.journal.proofs.journal.JournalVault.new.Goals as goal
+
+pub invariant_of-result-2 : goal.invariant_of-result-2
+invariant_of-result-2 c = search (rules, filled_length, filled_order, filled_lawful)
+
+pub returns-clause-stored : goal.returns-clause-stored
+returns-clause-stored c = search (rules, filled_length, filled_entries)
