@@ -11,7 +11,7 @@ pub fn number_of(bytes: &[u8]) -> Option<u32>
     match bytes {
         [b'0'] => Some(0),
         [first @ b'1'..=b'9', rest @ ..] if rest.len() <= 6 => digits_on(
-            (*first - b'0') as u32,
+            u32::from(*first - b'0'),
             rest,
         ),
         _ => None,
@@ -28,15 +28,13 @@ fn digits_on(lead: u32, rest: &[u8]) -> Option<u32>
         if !digit.is_ascii_digit() {
             return None;
         }
-        number = number * 10 + (*digit - b'0') as u32;
+        number = number * 10 + u32::from(*digit - b'0');
     }
     Some(number)
 }
 
 // Every number of at most seven digits reads back from its digits, and no other text reads as it.
-pub fn numerals_stand() -> u8
+pub fn numerals_stand()
     ensures written { ReadsWritten }
     ensures only { ReadsOnlyWritten }
-{
-    0
-}
+{}
