@@ -1,5 +1,5 @@
 -- What a reader of lines and a reader of fields have ahead of them.
-use Rattle.std.specs.Prelude.{ℕ, ◌+◌, ◌^◌, ◌<◌, ◌≤◌, cond, List, [], length, drop, nat_le}
+use Rattle.std.specs.Prelude.{ℕ, ◌+◌, ◌≤◌, cond, List, [], length, drop, nat_le}
 use Rattle.tokens.specs.declared.reader.Reader.TheInside as reader
 use Rattle.tokens.specs.declared.fields.Fields.TheInside as fields
 use Rattle.tokens.specs.Text.{lines, fields}
@@ -12,7 +12,6 @@ lines_ahead r = rows r.line (lines (drop r.at r.input.now))
 -- of n bytes of input the lines before the one at `at` are read
 pub record WithinInput (r : reader.Inside) : Type 0 where
   pub within : r.at ≤ length r.input.now
-  pub sized : length r.input.now < 2 ^ 63
   pub counted : r.line ≤ r.at + 1
 
 -- the fields of a line from place `at` on, of which there are none past its end
@@ -25,5 +24,4 @@ fields_ahead f = row f.place (fields_from f.at f.line.now)
 
 pub record WithinLine (f : fields.Inside) : Type 0 where
   pub within : f.at ≤ length f.line.now + 1
-  pub sized : length f.line.now < 2 ^ 63
   pub counted : f.place.field ≤ f.at + 1
