@@ -13,7 +13,7 @@ pub struct Place {
 }
 
 // A field that is no number, one that is, or the end of a line, which has the place of the field that is not there.
-#[derive(Clone, Copy, Debug)]
+#[derive(Clone, Copy)]
 pub enum Token<'a> {
     Word(&'a [u8], Place),
     Number(&'a [u8], u32, Place),
