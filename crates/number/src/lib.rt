@@ -23,6 +23,7 @@ fn digits_on(lead: u32, rest: &[u8]) -> Option<u32>
     ensures { result ≡ more_digits lead rest.now }
 {
     let mut number = lead;
+    // A loop and no `try_fold`: that the number fits is known only of all digits so far.
     for byte in rest {
         let digit = char::from(*byte).to_digit(10)?;
         number = number * 10 + digit;

@@ -86,6 +86,7 @@ fn site_votes(fields: &mut Fields, sites: u32) -> Result<ArrayVec<u32, MOST_VOTE
     ensures moves { OnOk result (fields.new ≡ past_all sites fields.old) }
 {
     let mut votes = ArrayVec::new();
+    // A loop and no `collect`, which would not say which field is bad.
     for _ in 0..sites {
         votes.push(number(fields)?);
     }

@@ -15,7 +15,7 @@ pub(crate) enum Keyword {
 }
 
 impl Keyword {
-    // The word that the bytes spell, if a line can begin with it.
+    // The word that the bytes spell, if a line can begin with it. No `TryFrom`: there is nothing to say of other bytes.
     pub(crate) fn spelled_by(bytes: &[u8]) -> Option<Keyword>
         ensures { result ≡ keyword_of bytes.now }
     {

@@ -1,7 +1,7 @@
 ghost use Rattle.std.specs.Prelude.{◌≡◌, ◌==◌, position};
 ghost use Rattle.std.specs.List.{before_first};
 
-// Where the first `stop` is, if there is one.
+// Where the first `stop` is, if there is one. By itself, as what a chain finds is proved where it is returned.
 fn find(bytes: &[u8], stop: u8) -> Option<usize>
     ensures { result ≡ position (λ b. b == stop) bytes.now }
 {
