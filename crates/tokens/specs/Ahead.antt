@@ -9,7 +9,7 @@ use Rattle.tokens.specs.Rows.{Row, row, rows}
 abbrev pub lines_ahead : reader.Inside → List Row
 lines_ahead r = rows r.line (lines (drop r.at r.input.now))
 
--- of n bytes of input the lines before the one at `at` are read
+-- the next line begins within the input or at its end, and each line before it took a byte or more
 pub record WithinInput (r : reader.Inside) : Type 0 where
   pub within : r.at ≤ length r.input.now
   pub counted : r.line ≤ r.at + 1
@@ -22,6 +22,7 @@ fields_from at bs = cond (nat_le at (length bs)) (fields (drop at bs)) []
 abbrev pub fields_ahead : fields.Inside → Row
 fields_ahead f = row f.place (fields_from f.at f.line.now)
 
+-- the next field begins within the line, at its end or one past it, and each field before it took a byte or more
 pub record WithinLine (f : fields.Inside) : Type 0 where
   pub within : f.at ≤ length f.line.now + 1
   pub counted : f.place.field ≤ f.at + 1
