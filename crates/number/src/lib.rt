@@ -10,10 +10,9 @@ pub fn number_of(bytes: &[u8]) -> Option<u32>
 {
     match bytes {
         [b'0'] => Some(0),
-        [first @ b'1'..=b'9', rest @ ..] if rest.len() <= 6 => digits_on(
-            (*first - b'0') as u32,
-            rest,
-        ),
+        [first @ b'1'..=b'9', rest @ ..] if rest.len() <= 6 => {
+            digits_on(u32::from(*first - b'0'), rest)
+        }
         _ => None,
     }
 }
@@ -24,19 +23,16 @@ fn digits_on(lead: u32, rest: &[u8]) -> Option<u32>
     ensures { result ≡ more_digits lead rest.now }
 {
     let mut number = lead;
-    for digit in rest {
-        if !digit.is_ascii_digit() {
-            return None;
-        }
-        number = number * 10 + (*digit - b'0') as u32;
+    // A loop and no `try_fold`: that the number fits is known only of all digits so far.
+    for byte in rest {
+        let digit = char::from(*byte).to_digit(10)?;
+        number = number * 10 + digit;
     }
     Some(number)
 }
 
 // Every number of at most seven digits reads back from its digits, and no other text reads as it.
-pub fn numerals_stand() -> u8
+pub fn numerals_stand()
     ensures written { ReadsWritten }
     ensures only { ReadsOnlyWritten }
-{
-    0
-}
+{}

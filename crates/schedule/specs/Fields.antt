@@ -1,7 +1,7 @@
 -- What the fields of a row say, or the place of the first that does not fit.
 use Rattle.std.specs.Prelude.{ℕ, zero, suc, List, [], ◌∷◌, Some, None, Ok, Err, Option, Result}
 use Rattle.rules.specs.declared.call.Vote.{Vote}
-use Rattle.tokens.specs.declared.reader.Place.{Place}
+use Rattle.tokens.specs.declared.token.Place.{Place}
 use Rattle.tokens.specs.Rows.{Row, Seen, word, number, end, token, past}
 use Rattle.schedule.specs.Words.{vote_of}
 

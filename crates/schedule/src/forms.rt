@@ -1,124 +1,109 @@
 // The forms of lines, each from its second field on.
 ghost use Rattle.std.specs.Prelude.{◌≡◌, ◌≤◌, OnOk};
 ghost use Rattle.tokens.specs.Rows.{past};
-ghost use Rattle.tokens.specs.Ahead.{here, later};
 ghost use Rattle.schedule.specs.Fields.{then, number_at, vote_at, numbers, past_all};
-ghost use Rattle.schedule.specs.Lines.{closed_at, padded, roster_line, votes_line, begin_line, vote_line, deliver_line, advance_line};
+ghost use Rattle.schedule.specs.Lines.{closed_at, listed, roster_line, votes_line, begin_line, vote_line, deliver_line, advance_line};
 
-use crate::line::{Ballots, Line, MOST_SITES, Roster};
+use crate::line::{Ballots, Line, MOST_VOTES, Roster};
 use crate::words::vote_of;
+use arrayvec::ArrayVec;
 use rules::call::{Call, Vote};
-use tokens::{Place, Reader, Token};
+use tokens::{Fields, Place, Token};
 
 // The next field as a number.
-fn number(reader: &mut Reader) -> Result<u32, Place>
-    ensures told { result ≡ number_at (here reader.old) }
-    ensures moves { here reader.new ≡ past (here reader.old) }
-    ensures keeps { later reader.new ≡ later reader.old }
+fn number(fields: &mut Fields) -> Result<u32, Place>
+    ensures told { result ≡ number_at fields.old }
+    ensures moves { fields.new ≡ past fields.old }
 {
-    match reader.next() {
+    match fields.next_token() {
         Token::Number(_, number, _) => Ok(number),
-        Token::Word(_, place) => Err(place),
-        Token::End(place) => Err(place),
+        token => Err(token.place()),
     }
 }
 
 // The next field as a vote.
-fn vote(reader: &mut Reader) -> Result<Vote, Place>
-    ensures told { result ≡ vote_at (here reader.old) }
-    ensures moves { here reader.new ≡ past (here reader.old) }
-    ensures keeps { later reader.new ≡ later reader.old }
+fn vote(fields: &mut Fields) -> Result<Vote, Place>
+    ensures told { result ≡ vote_at fields.old }
+    ensures moves { fields.new ≡ past fields.old }
 {
-    match reader.next() {
+    match fields.next_token() {
         Token::Word(bytes, place) => vote_of(bytes).ok_or(place),
-        Token::Number(_, _, place) => Err(place),
-        Token::End(place) => Err(place),
+        token => Err(token.place()),
     }
 }
 
 // The line, if no field is left.
-fn closed(line: Line, reader: &mut Reader) -> Result<Line, Place>
-    ensures told { result ≡ closed_at line (here reader.old) }
-    ensures keeps { later reader.new ≡ later reader.old }
+fn closed(line: Line, fields: &mut Fields) -> Result<Line, Place>
+    ensures { result ≡ closed_at line fields.old }
 {
-    match reader.next() {
+    match fields.next_token() {
         Token::End(_) => Ok(line),
-        Token::Word(_, place) => Err(place),
-        Token::Number(_, _, place) => Err(place),
+        token => Err(token.place()),
     }
 }
 
-pub(crate) fn roster(reader: &mut Reader) -> Result<Line, Place>
-    ensures told { result ≡ roster_line (here reader.old) }
-    ensures keeps { later reader.new ≡ later reader.old }
+pub(crate) fn roster(fields: &mut Fields) -> Result<Line, Place>
+    ensures { result ≡ roster_line fields.old }
 {
-    let sites = number(reader)?;
-    let first = number(reader)?;
-    closed(Line::Roster(Roster { sites, first }), reader)
+    let sites = number(fields)?;
+    let first = number(fields)?;
+    closed(Line::Roster(Roster { sites, first }), fields)
 }
 
-pub(crate) fn begin(reader: &mut Reader) -> Result<Line, Place>
-    ensures told { result ≡ begin_line (here reader.old) }
-    ensures keeps { later reader.new ≡ later reader.old }
+pub(crate) fn begin(fields: &mut Fields) -> Result<Line, Place>
+    ensures { result ≡ begin_line fields.old }
 {
-    let answer = vote(reader)?;
-    closed(Line::Call(Call::Begin(answer)), reader)
+    let answer = vote(fields)?;
+    closed(Line::Call(Call::Begin(answer)), fields)
 }
 
-pub(crate) fn vote_on(reader: &mut Reader) -> Result<Line, Place>
-    ensures told { result ≡ vote_line (here reader.old) }
-    ensures keeps { later reader.new ≡ later reader.old }
+pub(crate) fn vote_on(fields: &mut Fields) -> Result<Line, Place>
+    ensures { result ≡ vote_line fields.old }
 {
-    let message = number(reader)?;
-    let answer = vote(reader)?;
-    closed(Line::Call(Call::Vote(message, answer)), reader)
+    let message = number(fields)?;
+    let answer = vote(fields)?;
+    closed(Line::Call(Call::Vote(message, answer)), fields)
 }
 
-pub(crate) fn deliver(reader: &mut Reader) -> Result<Line, Place>
-    ensures told { result ≡ deliver_line (here reader.old) }
-    ensures keeps { later reader.new ≡ later reader.old }
+pub(crate) fn deliver(fields: &mut Fields) -> Result<Line, Place>
+    ensures { result ≡ deliver_line fields.old }
 {
-    let message = number(reader)?;
-    closed(Line::Call(Call::Deliver(message)), reader)
+    let message = number(fields)?;
+    closed(Line::Call(Call::Deliver(message)), fields)
 }
 
-pub(crate) fn advance(reader: &mut Reader) -> Result<Line, Place>
-    ensures told { result ≡ advance_line (here reader.old) }
-    ensures keeps { later reader.new ≡ later reader.old }
+pub(crate) fn advance(fields: &mut Fields) -> Result<Line, Place>
+    ensures { result ≡ advance_line fields.old }
 {
-    let site = number(reader)?;
-    closed(Line::Call(Call::Advance(site)), reader)
+    let site = number(fields)?;
+    closed(Line::Call(Call::Advance(site)), fields)
 }
 
 // The votes of so many sites.
-fn site_votes(reader: &mut Reader, sites: u32) -> Result<[u32; MOST_SITES], Place>
+fn site_votes(fields: &mut Fields, sites: u32) -> Result<ArrayVec<u32, MOST_VOTES>, Place>
     requires { sites ≤ 16 }
-    ensures told { result ≡ then (numbers sites (here reader.old)) (padded sites) }
-    ensures moves { OnOk result (here reader.new ≡ past_all sites (here reader.old)) }
-    ensures keeps { later reader.new ≡ later reader.old }
+    ensures told { result ≡ then (numbers sites fields.old) listed }
+    ensures moves { OnOk result (fields.new ≡ past_all sites fields.old) }
 {
-    let mut votes = [0; MOST_SITES];
-    for site in 0..sites {
-        votes[site as usize] = number(reader)?;
+    let mut votes = ArrayVec::new();
+    // A loop and no `collect`, which would not say which field is bad.
+    for _ in 0..sites {
+        votes.push(number(fields)?);
     }
     Ok(votes)
 }
 
-pub(crate) fn votes(reader: &mut Reader, sites: u32) -> Result<Line, Place>
+pub(crate) fn votes(fields: &mut Fields, sites: u32) -> Result<Line, Place>
     requires { sites ≤ 16 }
-    ensures told { result ≡ votes_line sites (here reader.old) }
-    ensures keeps { later reader.new ≡ later reader.old }
+    ensures { result ≡ votes_line sites fields.old }
 {
-    let commit = number(reader)?;
-    let abort = number(reader)?;
-    let votes = site_votes(reader, sites)?;
-    closed(
-        Line::Votes(Ballots {
-            commit,
-            abort,
-            sites,
-            votes,
-        }),
-        reader,
-    )
+    let commit = number(fields)?;
+    let abort = number(fields)?;
+    let votes = site_votes(fields, sites)?;
+    let ballots = Ballots {
+        commit,
+        abort,
+        votes,
+    };
+    closed(Line::Votes(ballots), fields)
 }

@@ -1,8 +1,10 @@
+use arrayvec::ArrayVec;
 use rules::call::Call;
+use sites::set::MOST_SITES;
 use tokens::Place;
 
 // The most sites whose votes a line can give.
-pub const MOST_SITES: usize = 16;
+pub const MOST_VOTES: usize = MOST_SITES as usize;
 
 // The number of sites, and the first coordinator.
 #[derive(Clone, Copy)]
@@ -11,13 +13,12 @@ pub struct Roster {
     pub first: u32,
 }
 
-// A policy's two numbers and the votes of each of the sites, followed by zeros.
-#[derive(Clone, Copy)]
+// A policy's two numbers and the votes of each of the sites.
+#[derive(Drop)]
 pub struct Ballots {
     pub commit: u32,
     pub abort: u32,
-    pub sites: u32,
-    pub votes: [u32; MOST_SITES],
+    pub votes: ArrayVec<u32, MOST_VOTES>,
 }
 
 // Which lines may stand at a place of a schedule: the roster first, then the policy for its sites, then calls.
@@ -29,7 +30,7 @@ pub enum Section {
 }
 
 // What a line says.
-#[derive(Clone, Copy)]
+#[derive(Drop)]
 pub enum Line {
     Roster(Roster),
     Votes(Ballots),
@@ -37,7 +38,7 @@ pub enum Line {
 }
 
 // A line with its number from 1, or in its stead the place of its first field that is bad, missing or surplus.
-#[derive(Clone, Copy)]
+#[derive(Drop)]
 pub struct Reading {
     pub number: usize,
     pub line: Result<Line, Place>,

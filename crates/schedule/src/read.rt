@@ -1,54 +1,49 @@
 ghost use Rattle.std.specs.Prelude.{◌≡◌};
-ghost use Rattle.tokens.specs.Rows.{token, past};
-ghost use Rattle.tokens.specs.Ahead.{here, later, ahead};
 ghost use Rattle.schedule.specs.Words.{keyword_of};
-ghost use Rattle.schedule.specs.Lines.{form, by_first, first_read, after_first};
+ghost use Rattle.schedule.specs.Lines.{form, spelled, first_read, after_first};
 
 use crate::forms;
-use crate::line::{Line, MOST_SITES, Reading, Section};
-use crate::words::{Keyword, keyword_of};
-use tokens::{Place, Reader, Token};
+use crate::line::{Line, Reading, Section};
+use crate::words::Keyword;
+use sites::set::MOST_SITES;
+use tokens::{Fields, Place, Reader, Token};
 
 // The line of the form that the word at `place` names, if that section has such lines.
-fn by_word(word: &[u8], place: Place, reader: &mut Reader, section: Section) -> Result<Line, Place>
-    ensures told { result ≡ form section place (keyword_of word.now) (here reader.old) }
-    ensures keeps { later reader.new ≡ later reader.old }
+fn by_word(word: &[u8], place: Place, fields: &mut Fields, section: Section) -> Result<Line, Place>
+    ensures { result ≡ form section place (keyword_of word.now) fields.old }
 {
-    match (section, keyword_of(word)) {
-        (Section::Roster, Some(Keyword::Roster)) => forms::roster(reader),
-        (Section::Policy { sites }, Some(Keyword::Votes)) if sites as usize <= MOST_SITES => {
-            forms::votes(reader, sites)
+    match (section, Keyword::spelled_by(word)) {
+        (Section::Roster, Some(Keyword::Roster)) => forms::roster(fields),
+        (Section::Policy { sites }, Some(Keyword::Votes)) if sites <= MOST_SITES => {
+            forms::votes(fields, sites)
         }
-        (Section::Calls, Some(Keyword::Begin)) => forms::begin(reader),
-        (Section::Calls, Some(Keyword::Vote)) => forms::vote_on(reader),
-        (Section::Calls, Some(Keyword::Deliver)) => forms::deliver(reader),
-        (Section::Calls, Some(Keyword::Advance)) => forms::advance(reader),
+        (Section::Calls, Some(Keyword::Begin)) => forms::begin(fields),
+        (Section::Calls, Some(Keyword::Vote)) => forms::vote_on(fields),
+        (Section::Calls, Some(Keyword::Deliver)) => forms::deliver(fields),
+        (Section::Calls, Some(Keyword::Advance)) => forms::advance(fields),
         _ => Err(place),
     }
 }
 
-// The line that the reader is at the start of.
-fn whole_line(reader: &mut Reader, section: Section) -> Result<Line, Place>
-    ensures told { result ≡ by_first section (token (here reader.old)) (past (here reader.old)) }
-    ensures keeps { later reader.new ≡ later reader.old }
+// What the line of the fields says.
+#[tactic(auto, unfolding(crate::specs::Lines::spelled))]
+fn line_of(fields: &mut Fields, section: Section) -> Result<Line, Place>
+    ensures { result ≡ spelled section fields.old }
 {
-    match reader.next() {
-        Token::Word(word, place) => by_word(word, place, reader, section),
-        Token::Number(_, _, place) => Err(place),
-        Token::End(place) => Err(place),
+    match fields.next_token() {
+        Token::Word(word, place) => by_word(word, place, fields, section),
+        token => Err(token.place()),
     }
 }
 
 // The next line of a section, if there is one. The line is passed, whatever it says.
 pub fn read_line(reader: &mut Reader, section: Section) -> Option<Reading>
-    ensures told { result ≡ first_read section (ahead reader.old) }
-    ensures passes { ahead reader.new ≡ after_first (ahead reader.old) }
+    ensures told { result ≡ first_read section reader.old }
+    ensures passes { reader.new ≡ after_first reader.old }
 {
-    if !reader.has_line() {
-        return None;
-    }
-    let number = reader.line();
-    let line = whole_line(reader, section);
-    reader.next_line();
-    Some(Reading { number, line })
+    let mut fields = reader.next_line()?;
+    Some(Reading {
+        number: fields.line(),
+        line: line_of(&mut fields, section),
+    })
 }

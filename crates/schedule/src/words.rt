@@ -1,5 +1,4 @@
 ghost use Rattle.std.specs.Prelude.{◌≡◌};
-ghost use Rattle.std.specs.Str.{bytes_eq};
 ghost use Rattle.schedule.specs.Words.{keyword_of, vote_of};
 
 use rules::call::Vote;
@@ -15,32 +14,30 @@ pub(crate) enum Keyword {
     Advance,
 }
 
-fn is(bytes: &[u8], word: &[u8]) -> bool
-    ensures { result ≡ bytes_eq bytes.now word.now }
-{
-    bytes == word
-}
-
-pub(crate) fn keyword_of(bytes: &[u8]) -> Option<Keyword>
-    ensures { result ≡ keyword_of bytes.now }
-{
-    match bytes {
-        word if is(word, b"roster") => Some(Keyword::Roster),
-        word if is(word, b"votes") => Some(Keyword::Votes),
-        word if is(word, b"begin") => Some(Keyword::Begin),
-        word if is(word, b"vote") => Some(Keyword::Vote),
-        word if is(word, b"deliver") => Some(Keyword::Deliver),
-        word if is(word, b"advance") => Some(Keyword::Advance),
-        _ => None,
+impl Keyword {
+    // The word that the bytes spell, if a line can begin with it. No `TryFrom`: there is nothing to say of other bytes.
+    pub(crate) fn spelled_by(bytes: &[u8]) -> Option<Keyword>
+        ensures { result ≡ keyword_of bytes.now }
+    {
+        match bytes {
+            b"roster" => Some(Keyword::Roster),
+            b"votes" => Some(Keyword::Votes),
+            b"begin" => Some(Keyword::Begin),
+            b"vote" => Some(Keyword::Vote),
+            b"deliver" => Some(Keyword::Deliver),
+            b"advance" => Some(Keyword::Advance),
+            _ => None,
+        }
     }
 }
 
+// The vote that the bytes spell, if they spell one.
 pub(crate) fn vote_of(bytes: &[u8]) -> Option<Vote>
     ensures { result ≡ vote_of bytes.now }
 {
     match bytes {
-        word if is(word, b"yes") => Some(Vote::Yes),
-        word if is(word, b"no") => Some(Vote::No),
+        b"yes" => Some(Vote::Yes),
+        b"no" => Some(Vote::No),
         _ => None,
     }
 }

@@ -1,58 +1,75 @@
-use Rattle.std.proofs.Common.{◌≡◌, ℕ, ◌+◌, ◌<◌, Bool, true, false, eqb, List, [], ◌∷◌, length, take, drop, refl, ap, ◌∙◌, add-one, one-add, arith}
-use Rattle.std.specs.List.{prefix_len}
+-- A text is cut at its first newline, and a line at its first comma.
+use Rattle.std.proofs.Common.{◌≡◌, ℕ, suc, ◌+◌, ◌-◌, ◌<◌, ◌≤◌, Bool, true, false, eqb, leb, min, List, [], ◌∷◌, length, drop, refl, sym, ap, ◌∙◌, one-add, arith}
+use Rattle.std.specs.List.{before_first, position_or_len, onto_first}
+use Rattle.std.proofs.lemmas.List.{drop-drop, drop_min, length-drop, length-take-le}
+use Rattle.std.proofs.lemmas.List.Sums.{prefix_len-le-length}
+use Rattle.std.proofs.lemmas.Bool.{le-leb}
 use Rattle.std.proofs.lemmas.Bool.Decides.{nat_tests}
-use Rattle.tokens.specs.Text.{onto, lines, fields}
+use Rattle.tokens.specs.Text.{lines, fields}
 use Rattle.tokens.specs.Rows.{row, rows, place_at}
-use Rattle.tokens.specs.Ahead.{line_left, past_line, first_fields, more_fields}
-use Rattle.tokens.specs.Scans.{in_line, in_field}
+use Rattle.tokens.specs.Ahead.{fields_from}
 
--- the first field of a line, and what is left of the line where it ended
-pub cut_field : (bs : List ℕ) → fields (line_left bs) ≡ take (prefix_len in_field bs) bs ∷ more_fields (line_left (drop (prefix_len in_field bs) bs))
-cut_field [] = refl
-cut_field (b ∷ bs) = go (eqb b 44) (eqb b 10) refl refl (cut_field bs)
-  where
-    go : (u v : Bool) → eqb b 44 ≡ u → eqb b 10 ≡ v → fields (line_left bs) ≡ take (prefix_len in_field bs) bs ∷ more_fields (line_left (drop (prefix_len in_field bs) bs)) → fields (line_left (b ∷ bs)) ≡ take (prefix_len in_field (b ∷ bs)) (b ∷ bs) ∷ more_fields (line_left (drop (prefix_len in_field (b ∷ bs)) (b ∷ bs)))
-    go true true p q more = absurd (grind (arith, nat_tests))
-    go true false p q more = rw (p, q, p)
-    go false true p q more = rw (p, q, q)
-    go false false p q more = rw (p, q, p, one-add) (ap (onto b) more)
+abbrev newline : ℕ → Bool
+newline b = eqb b 10
 
--- a field does not end its line
-pub same_line : (bs : List ℕ) → past_line (drop (prefix_len in_field bs) bs) ≡ past_line bs
-same_line [] = refl
-same_line (b ∷ bs) = go (eqb b 44) (eqb b 10) refl refl (same_line bs)
-  where
-    go : (u v : Bool) → eqb b 44 ≡ u → eqb b 10 ≡ v → past_line (drop (prefix_len in_field bs) bs) ≡ past_line bs → past_line (drop (prefix_len in_field (b ∷ bs)) (b ∷ bs)) ≡ past_line (b ∷ bs)
-    go true v p q more = rw p
-    go false true p q more = rw (p, q, q)
-    go false false p q more = rw (p, q, one-add) more
+abbrev comma : ℕ → Bool
+comma b = eqb b 44
 
--- the newline that ends a line is passed
-pub line_passed : (bs : List ℕ) → past_line bs ≡ drop (prefix_len in_line bs + 1) bs
-line_passed [] = refl
-line_passed (b ∷ bs) = go (eqb b 10) refl (line_passed bs)
+first_line : (bs : List ℕ) → 0 < length bs → lines bs ≡ before_first newline bs ∷ lines (drop (position_or_len newline bs + 1) bs)
+first_line [] h = absurd (omega arith)
+first_line (b ∷ []) h = go (eqb b 10) refl
   where
-    go : (v : Bool) → eqb b 10 ≡ v → past_line bs ≡ drop (prefix_len in_line bs + 1) bs → past_line (b ∷ bs) ≡ drop (prefix_len in_line (b ∷ bs) + 1) (b ∷ bs)
-    go true q more = rw q
-    go false q more = rw (q, add-one, one-add) (more ∙ rw add-one)
-
-first_line : (b : ℕ) (bs : List ℕ) → lines (b ∷ bs) ≡ line_left (b ∷ bs) ∷ lines (past_line (b ∷ bs))
-first_line b [] = go (eqb b 10) refl
-  where
-    go : (v : Bool) → eqb b 10 ≡ v → lines (b ∷ []) ≡ line_left (b ∷ []) ∷ lines (past_line (b ∷ []))
+    go : (v : Bool) → eqb b 10 ≡ v → lines (b ∷ []) ≡ before_first newline (b ∷ []) ∷ lines (drop (position_or_len newline (b ∷ []) + 1) (b ∷ []))
     go true q = rw q
     go false q = rw q
-first_line b (c ∷ cs) = go (eqb b 10) refl (first_line c cs)
+first_line (b ∷ c ∷ cs) h = go (eqb b 10) refl (first_line (c ∷ cs) (omega arith))
   where
-    go : (v : Bool) → eqb b 10 ≡ v → lines (c ∷ cs) ≡ line_left (c ∷ cs) ∷ lines (past_line (c ∷ cs)) → lines (b ∷ c ∷ cs) ≡ line_left (b ∷ c ∷ cs) ∷ lines (past_line (b ∷ c ∷ cs))
+    go : (v : Bool) → eqb b 10 ≡ v → lines (c ∷ cs) ≡ before_first newline (c ∷ cs) ∷ lines (drop (position_or_len newline (c ∷ cs) + 1) (c ∷ cs)) → lines (b ∷ c ∷ cs) ≡ before_first newline (b ∷ c ∷ cs) ∷ lines (drop (position_or_len newline (b ∷ c ∷ cs) + 1) (b ∷ c ∷ cs))
     go true q more = rw q
-    go false q more = rw q (ap (onto b) more)
+    go false q more =
+        let n = position_or_len newline (c ∷ cs) in
+        let e : drop (1 + n + 1) (b ∷ c ∷ cs) ≡ drop (n + 1) (c ∷ cs) = ap (λ k. drop k (b ∷ c ∷ cs)) (let h : 1 + n + 1 ≡ suc (n + 1) = omega arith in h) in
+        rw (q, e, one-add) (ap (onto_first b) more)
 
--- the rows of a text: the first line and those after it
-pub some_rows : (n : ℕ) (bs : List ℕ) → 0 < length bs → rows n (lines bs) ≡ row (place_at n 1) (first_fields bs) ∷ rows (n + 1) (lines (past_line bs))
-some_rows n [] h = absurd (omega arith)
-some_rows n (b ∷ bs) h = ap (rows n) (first_line b bs)
+from_within : (at : ℕ) (bs : List ℕ) → at ≤ length bs → fields_from at bs ≡ fields (drop at bs)
+from_within at bs h = rw (le-leb at (length bs) h)
 
-pub no_rows : (n : ℕ) (bs : List ℕ) → length bs ≡ 0 → rows n (lines bs) ≡ []
-no_rows n [] h = refl
-no_rows n (b ∷ bs) h = absurd (omega arith)
+-- the fields from place k of what stands from `at` on
+from_later : (k at : ℕ) (bs : List ℕ) → at ≤ length bs → fields_from k (drop at bs) ≡ fields_from (at + k) bs
+from_later k at bs h =
+    let t : leb k (length bs - at) ≡ leb (at + k) (length bs) = grind (arith, nat_tests) in
+    rw (length-drop at bs, drop-drop k at bs, t)
+
+first_field : (bs : List ℕ) → fields bs ≡ before_first comma bs ∷ fields_from (position_or_len comma bs + 1) bs
+first_field [] = refl
+first_field (b ∷ bs) = go (eqb b 44) refl (first_field bs)
+  where
+    go : (v : Bool) → eqb b 44 ≡ v → fields bs ≡ before_first comma bs ∷ fields_from (position_or_len comma bs + 1) bs → fields (b ∷ bs) ≡ before_first comma (b ∷ bs) ∷ fields_from (position_or_len comma (b ∷ bs) + 1) (b ∷ bs)
+    go true q more = rw q (ap (λ fs. [] ∷ fs) (sym (from_within 0 bs (omega arith)) ∙ from_later 0 1 (b ∷ bs) (omega arith)))
+    go false q more =
+        let n = position_or_len comma bs in
+        let e : fields_from (n + 1) bs ≡ fields_from (1 + n + 1) (b ∷ bs) = from_later (n + 1) 1 (b ∷ bs) (omega arith) ∙ ap (λ k. fields_from k (b ∷ bs)) (omega arith) in
+        rw (q, ← e, one-add) (ap (onto_first b) more)
+
+-- the part before the first byte of a kind is no longer than the whole
+part_length : (p : ℕ → Bool) (bs : List ℕ) → length (before_first p bs) ≡ position_or_len p bs
+part_length p bs = length-take-le (position_or_len p bs) bs (prefix_len-le-length _ bs)
+
+-- the reader is at `at` in s, and the line that begins there is cut off
+module _ (s : List ℕ) (at n : ℕ) (line : List ℕ) (l : at < length s) (e : line ≡ before_first newline (drop at s)) where
+  rest : drop (position_or_len newline (drop at s) + 1) (drop at s) ≡ drop (min (at + length line + 1) (length s)) s
+  rest =
+      let k : length line ≡ position_or_len newline (drop at s) = rw e (part_length newline (drop at s)) in
+      drop-drop (position_or_len newline (drop at s) + 1) at s ∙ ap (λ k. drop k s) (omega arith) ∙ sym (drop_min (at + length line + 1) s)
+
+  pub next_row : rows n (lines (drop at s)) ≡ row (place_at n 1) (fields line) ∷ rows (n + 1) (lines (drop (min (at + length line + 1) (length s)) s))
+  next_row =
+      ap (rows n) (first_line (drop at s) (let d = length-drop at s in omega arith)) ∙ ap (λ f. row (place_at n 1) (fields f) ∷ rows (n + 1) (lines (drop (position_or_len newline (drop at s) + 1) (drop at s)))) (sym e) ∙ ap (λ bs. row (place_at n 1) (fields line) ∷ rows (n + 1) (lines bs)) rest
+
+-- the reader is at `at` in the line s, and the field that begins there is cut off
+module _ (s : List ℕ) (at : ℕ) (field : List ℕ) (l : at ≤ length s) (e : field ≡ before_first comma (drop at s)) where
+  pub next_field : fields_from at s ≡ field ∷ fields_from (at + (length field + 1)) s
+  next_field =
+      let k : length field ≡ position_or_len comma (drop at s) = rw e (part_length comma (drop at s)) in
+      from_within at s l ∙ first_field (drop at s) ∙ ap (λ f. f ∷ fields_from (position_or_len comma (drop at s) + 1) (drop at s)) (sym e)
+      ∙ ap (λ fs. field ∷ fs) (from_later (position_or_len comma (drop at s) + 1) at s l ∙ ap (λ k. fields_from k s) (omega arith))

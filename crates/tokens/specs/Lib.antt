@@ -1,4 +1,4 @@
 pub mod Text
 pub mod Rows
+pub mod Seen
 pub mod Ahead
-pub mod Scans

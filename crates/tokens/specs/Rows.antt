@@ -1,7 +1,7 @@
 -- Lines as rows of fields, and the tokens that they give.
 use Rattle.std.specs.Prelude.{ℕ, ◌+◌, List, [], ◌∷◌, Some, None, Option}
 use Rattle.number.specs.Numbers.{numeral}
-use Rattle.tokens.specs.declared.reader.Place.{Place}
+use Rattle.tokens.specs.declared.token.Place.{Place}
 use Rattle.tokens.specs.Text.{fields}
 
 -- a line, or what is left of one: its fields, and the place of the first of them

@@ -1,6 +1,11 @@
-//! The tokens of a schedule's text: its fields, each with its place, and the ends of its lines.
+//! The lines of a text and the tokens of each: its fields, each with its place, and the end.
 #![tactic(auto)]
 
+mod fields;
+mod part;
 mod reader;
+mod token;
 
-pub use reader::{Place, Reader, Token};
+pub use fields::Fields;
+pub use reader::Reader;
+pub use token::{Place, Token};

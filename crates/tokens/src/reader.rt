@@ -1,34 +1,58 @@
-ghost use Rattle.std.specs.Prelude.{◌+◌, ◌^◌, ◌<◌, ◌≤◌, length};
+ghost use Rattle.std.specs.Prelude.{◌≡◌, drop, slice_get};
+ghost use Rattle.tokens.specs.Text.{lines};
+ghost use Rattle.tokens.specs.Rows.{rows};
 
-mod steps;
+use crate::fields::Fields;
+use crate::part::up_to;
+use std::marker::Model;
 
-// A line of the input and a field of that line, each counted from 1.
-#[derive(Clone, Copy, PartialEq, Eq, Debug)]
-pub struct Place {
-    pub line: usize,
-    pub field: usize,
-}
-
-// A field that is no number, one that is, or the end of a line, which has the place of the field that is not there.
-#[derive(Clone, Copy)]
-pub enum Token<'a> {
-    Word(&'a [u8], Place),
-    Number(&'a [u8], u32, Place),
-    End(Place),
-}
-
-// Reads the lent input, field by field and line by line.
+// Reads the lent input line by line. What it is to a caller: the lines that are left, as rows.
 #[derive(Drop)]
 pub struct Reader<'a> {
     input: &'a [u8],
-    // The first byte that is not read yet: within a line the one that ended the last field.
+    // Where the next line begins.
     at: usize,
-    // The number of the line.
+    // The number of that line.
     line: usize,
-    // How many fields of the line are read.
-    passed: usize,
-    ghost within: { at ≤ length input.now },
-    ghost sized: { length input.now < 2 ^ 63 },
-    ghost lines: { line ≤ at + 1 },
-    ghost fields: { passed ≤ at + 1 },
+}
+
+impl<'a> Model for Reader<'a> {
+    ghost use Rattle.std.specs.Prelude.{List};
+    ghost use Rattle.tokens.specs.Rows.{Row};
+
+    ghost Value = { List Row };
+
+    ghost use Rattle.tokens.specs.Ahead.{lines_ahead, WithinInput};
+
+    ghost view = { lines_ahead };
+
+    ghost invariant = { WithinInput };
+}
+
+impl<'a> Reader<'a> {
+    pub fn new(input: &'a [u8]) -> Self
+        ensures { result ≡ rows 1 (lines input.now) }
+    {
+        Reader {
+            input,
+            at: 0,
+            line: 1,
+        }
+    }
+
+    // The fields of the next line, which is passed; none where no line is left.
+    pub fn next_line(&mut self) -> Option<Fields<'a>>
+        ensures told { result ≡ slice_get self.old 0 }
+        ensures passes { self.new ≡ drop 1 self.old }
+    {
+        if self.at >= self.input.len() {
+            return None;
+        }
+        let line = up_to(&self.input[self.at..], b'\n');
+        let fields = Fields::new(line, self.line);
+        // The last line may lack its newline.
+        self.at = (self.at + line.len() + 1).min(self.input.len());
+        self.line += 1;
+        Some(fields)
+    }
 }

@@ -1,15 +1,16 @@
-use Rattle.tokens.specs.Ahead.{later, ahead}
-use Rattle.tokens.proofs.Moves.{line_left_behind, last_line}
+use Rattle.std.proofs.Common.{refl}
+use Rattle.std.proofs.lemmas.List.{take_rest}
+use Rattle.tokens.proofs.Cuts.{next_row}
 use Rattle.tokens.proofs.reader.Reader.next_line.Goals as goal
 
-pub returns-then-end-input : goal.returns-then-end-input
-unfolding later ahead
-returns-then-end-input c =
-    let r = c.args.self.now in
-    line_left_behind r.input.now r.at r.line c.line_end-end.result c.line_end-end.ensures.is
+pub returns-clause-told : goal.returns-clause-told
+returns-clause-told c =
+    let r = c.self.inside in
+    let e = next_row r.input.now r.at r.line _ c.if-self.false (rw take_rest at c.up_to-line.ensures) in
+    rw (← c.self.view_is, e, c.new-fields.ensures) refl
 
-pub returns-else-end-input : goal.returns-else-end-input
-unfolding later ahead
-returns-else-end-input c =
-    let r = c.args.self.now in
-    last_line r.input.now r.at r.line c.line_end-end.result c.line_end-end.ensures.is c.if-end-input.false
+pub returns-clause-passes : goal.returns-clause-passes
+returns-clause-passes c =
+    let r = c.self.inside in
+    let e = next_row r.input.now r.at r.line _ c.if-self.false (rw take_rest at c.up_to-line.ensures) in
+    rw (← c.self.view_is, e, c.min-self-inside.ensures) refl
