@@ -1,7 +1,9 @@
 use std::alloc::AllocError;
+use thiserror::Error;
 
 // There was no memory for the text or the message list.
-#[derive(Debug, Drop)]
+#[derive(Debug, Drop, Error)]
+#[error("no memory for the transcript")]
 pub struct OutOfMemory;
 
 impl From<AllocError> for OutOfMemory {
