@@ -5,7 +5,7 @@ use Rattle.tokens.specs.Rows.{Row}
 use Rattle.tokens.specs.declared.reader.Place.{Place}
 use Rattle.schedule.specs.declared.line.Line.{Line}
 use Rattle.votes.specs.declared.ballot.Votes.{Votes}
-use Rattle.rehearsal.specs.Approvals.{new_stage}
+use Rattle.rehearsal.specs.Approvals.{core_of, new_stage}
 use Rattle.rehearsal.specs.Faults.{answered_then}
 use Rattle.rehearsal.specs.Stages.{calls_left}
 use Rattle.rehearsal.specs.Transcript.{after_roster, policy_text, roster_text}
@@ -19,7 +19,7 @@ told r f = string_bytes r.text ++ f (ahead r.reader)
 
 -- what follows the roster, where it opened a net
 abbrev pub after_opening : Option NewNet → List Row → List ℕ
-after_opening (Some n) rs = after_roster n.net.core n.net.core.sites n.first rs
+after_opening (Some n) rs = after_roster (core_of n) (core_of n).sites n.first rs
 after_opening None rs = []
 
 -- what follows the policy for a net, where it was accepted
@@ -36,4 +36,4 @@ Opens x made =
 abbrev pub Fixes : Result Line Place → Result Votes Fault → Type 0
 Fixes x made =
     (n : NewNet) (k : ℕ) (rs : List Row) →
-    answered_then k made (λ p. after_fixing n (Some p) rs) ≡ policy_text n.net.core n.net.core.sites n.first k x rs
+    answered_then k made (λ p. after_fixing n (Some p) rs) ≡ policy_text (core_of n) (core_of n).sites n.first k x rs

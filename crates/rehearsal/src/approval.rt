@@ -66,10 +66,12 @@ impl<'a> Approval<'a> {
         ensures answer { result ≡ call_answer (stage_of self.old) call }
         ensures stage { stage_of self.new ≡ call_stage (stage_of self.old) call }
     {
-        let net = &mut self.net;
-        let policy = &self.policy;
-        let vault = &mut self.vault;
-        let list = self.list.as_mut_slice();
+        let Approval {
+            net,
+            policy,
+            vault,
+            list,
+        } = self;
         match call {
             Call::Begin(vote) => net.begin(policy, vault, list, vote),
             Call::Vote(place, vote) => net.vote(policy, vault, list, place, vote),

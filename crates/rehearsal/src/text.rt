@@ -8,8 +8,7 @@ use crate::memory::OutOfMemory;
 use rows::rows::RowVault;
 use rules::record::Record;
 use sites::Site;
-use std::fmt;
-use std::fmt::Write;
+use std::fmt::{self, Write};
 use vault::Vault;
 
 // A site's number and record.
