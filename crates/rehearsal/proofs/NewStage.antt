@@ -1,5 +1,5 @@
 -- The stage of a new approval.
-use Rattle.std.proofs.Common.{◌≡◌, ℕ, Bool, true, false, ◌&&◌, ltb, leb, List, replicate, Ok, refl, arith}
+use Rattle.std.proofs.Common.{◌≡◌, ℕ, List, replicate, Ok, arith}
 use Rattle.std.proofs.lemmas.Bool.Decides.{nat_tests}
 use Rattle.net.specs.declared.net.Net.{Net}
 use Rattle.rehearsal.specs.Opened.{IsOpened}
@@ -13,11 +13,7 @@ use Rattle.rehearsal.specs.Transcript.{new_world}
 
 -- where the net was opened, sixteen rows are enough for its vault
 pub vault_opens : (n : Net) (f : ℕ) → IsOpened n f → rows.opening 16 n.core.sites f ≡ Ok tt
-vault_opens n f e = go (leb 2 n.core.sites && (leb n.core.sites 16 && ltb f n.core.sites)) refl
-  where
-    go : (t : Bool) → leb 2 n.core.sites && (leb n.core.sites 16 && ltb f n.core.sites) ≡ t → rows.opening 16 n.core.sites f ≡ Ok tt
-    go true h = grind (arith, nat_tests)
-    go false h = absurd (grind (arith, nat_tests))
+vault_opens n f e = grind (arith, nat_tests)
 
 -- a new approval has a new stage
 pub new_stage_is : (b : Ballot) (n : Net) (f s m k : ℕ) (es : List Entry) (ms : List Message) → IsOpened n f → s ≡ n.core.sites → m ≡ 16 → k ≡ rows.opened_sites (rows.opening m s f) s → es ≡ rows.opened_entries (rows.opening m s f) s f → ms ≡ replicate 4096 no_message → stage b k (world n.core es ms) ≡ stage b n.core.sites (new_world n.core n.core.sites f)

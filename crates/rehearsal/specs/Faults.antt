@@ -18,6 +18,5 @@ answered k (Err (fault.Refused x)) = answer_line k (Err x)
 
 -- and after an accepted line what f tells of what it made
 abbrev pub answered_then : {A : Type 0} → ℕ → Result A Fault → (A → List ℕ) → List ℕ
-answered_then k (Ok a) f = answer_line k (Ok tt) ++ f a
-answered_then k (Err (fault.Unreadable p)) f = unreadable_line k p
-answered_then k (Err (fault.Refused x)) f = answer_line k (Err x)
+answered_then k (Ok a) f = answered k (Ok a) ++ f a
+answered_then {A = A} k (Err x) f = answered {A = A} k (Err x)

@@ -3,7 +3,7 @@ ghost use Rattle.std.specs.Prelude.{◌≡◌, ℕ, IfOk};
 ghost use Rattle.rehearsal.specs.Stages.{call_answer, call_stage, line_text, line_stage};
 ghost use Rattle.rehearsal.specs.Faults.{answered};
 
-use crate::fault::{Fault, MISPLACED};
+use crate::fault::Fault;
 use crate::memory::OutOfMemory;
 use crate::opening::NewNet;
 use net::net::Net;
@@ -86,7 +86,7 @@ impl<'a> Approval<'a> {
         ensures stage { stage_of self.new ≡ line_stage (stage_of self.old) line }
     {
         let Line::Call(call) = line? else {
-            return Err(MISPLACED);
+            return Err(Fault::MISPLACED);
         };
         Ok(self.make(call)?)
     }

@@ -14,8 +14,10 @@ pub(crate) enum Fault {
     Refused(Refusal),
 }
 
-// A line that does not belong where it stands is bad from its first field on.
-pub(crate) const MISPLACED: Fault = Fault::Unreadable { field: 1 };
+impl Fault {
+    // A line that does not belong where it stands is bad from its first field on.
+    pub(crate) const MISPLACED: Fault = Fault::Unreadable { field: 1 };
+}
 
 impl From<Place> for Fault {
     ghost from_gives = { λ place fault. fault ≡ Unreadable place.field };

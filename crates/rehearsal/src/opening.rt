@@ -1,7 +1,7 @@
 // The net that the line of a roster opens.
 ghost use Rattle.rehearsal.specs.Opened.{IsOpened};
 
-use crate::fault::{Fault, MISPLACED};
+use crate::fault::Fault;
 use net::net::Net;
 use schedule::{Line, Roster};
 use sites::Site;
@@ -22,7 +22,7 @@ impl NewNet {
         ensures { Opens line result }
     {
         let Line::Roster(Roster { sites, first }) = line? else {
-            return Err(MISPLACED);
+            return Err(Fault::MISPLACED);
         };
         let net = Net::new(sites, first)?;
         Ok(NewNet { net, first })

@@ -1,7 +1,7 @@
 // The policy that a line gives.
 ghost use Rattle.rehearsal.specs.Steps.{Fixes};
 
-use crate::fault::{Fault, MISPLACED};
+use crate::fault::Fault;
 use schedule::Line;
 use tokens::Place;
 use votes::ballot::Votes;
@@ -10,7 +10,7 @@ pub(crate) fn policy_of(line: Result<Line, Place>) -> Result<Votes, Fault>
     ensures { Fixes line result }
 {
     let Line::Votes(ballots) = line? else {
-        return Err(MISPLACED);
+        return Err(Fault::MISPLACED);
     };
     let sites = ballots.votes.len().min(ballots.sites as usize);
     let mut policy = Votes::new();

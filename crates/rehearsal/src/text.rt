@@ -31,8 +31,12 @@ impl fmt::Display for SiteRecord {
             lead,
             ..
         } = self.own;
-        write!(f, "{},{}", self.site, state.letter())?;
-        write!(f, ",{elected},{attempt},{lead}")
+        write!(
+            f,
+            "{},{},{elected},{attempt},{lead}",
+            self.site,
+            state.letter()
+        )
     }
 }
 
