@@ -30,7 +30,7 @@ const NO_MESSAGE: Message = Message {
     receiver: 0,
 };
 
-// A net, with all that its calls take.
+// A net, with all that its calls take. Its contracts read the stage of its fields; a model of it would hide no more.
 #[derive(Drop)]
 pub(crate) struct Approval<'a> {
     net: Net,

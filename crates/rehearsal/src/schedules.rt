@@ -71,12 +71,15 @@ impl Rehearsal<'_> {
         }
     }
 
-    // The line of the policy.
+    // The line of the policy. This and `open` stay two: a closure that makes what either line makes would need a clause
+    // over all that it may return, longer than both.
     fn fix(&mut self, opened: &NewNet) -> Result<Option<Votes>, OutOfMemory>
         ensures { IfOk result (λ policy. told self.new (after_fixing opened.now policy) ≡ told self.old (after_opening (Some opened.now))) }
     {
-        let sites = opened.net.sites();
-        match read_line(&mut self.reader, Section::Policy { sites }) {
+        let section = Section::Policy {
+            sites: opened.net.sites(),
+        };
+        match read_line(&mut self.reader, section) {
             Some(reading) => self.answer(reading.number, policy_of(reading.line)),
             None => Ok(None),
         }
