@@ -1,3 +1,2 @@
-mod Opening
-mod Calling
+mod NewStage
 mod Sites

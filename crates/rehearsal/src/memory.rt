@@ -1,18 +1,13 @@
 use std::alloc::AllocError;
-use std::fmt;
+use thiserror::Error;
 
 // There was no memory for the text or the message list.
-#[derive(Debug, Drop)]
+#[derive(Debug, Drop, Error)]
+#[error("no memory for the transcript")]
 pub struct OutOfMemory;
 
 impl From<AllocError> for OutOfMemory {
     fn from(_error: AllocError) -> OutOfMemory {
-        OutOfMemory
-    }
-}
-
-impl From<fmt::Error> for OutOfMemory {
-    fn from(_error: fmt::Error) -> OutOfMemory {
         OutOfMemory
     }
 }

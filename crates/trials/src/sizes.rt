@@ -5,11 +5,11 @@ use std::test::Fail;
 #[test]
 fn longest(rt: HostRuntime) -> Result<(), Fail> {
     let input = vec![in rt.alloc(); b'\n'; 65_536]?;
-    expect(&rt, rt.alloc(), input.as_slice(), "1,1,1\n")
+    expect(&rt, input.as_slice(), "1,1,1\n")
 }
 
 #[test]
 fn too_long(rt: HostRuntime) -> Result<(), Fail> {
     let input = vec![in rt.alloc(); b'\n'; 65_537]?;
-    expect(&rt, rt.alloc(), input.as_slice(), "0,1,0\n")
+    expect(&rt, input.as_slice(), "0,1,0\n")
 }

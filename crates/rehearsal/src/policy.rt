@@ -1,0 +1,19 @@
+// The policy that a line gives.
+ghost use Rattle.rehearsal.specs.Steps.{Fixes};
+
+use crate::fault::Fault;
+use schedule::Line;
+use tokens::Place;
+use votes::ballot::Votes;
+
+pub(crate) fn policy_of(line: Result<Line, Place>) -> Result<Votes, Fault>
+    ensures { Fixes line result }
+{
+    let Line::Votes(ballots) = line? else {
+        return Err(Fault::MISPLACED);
+    };
+    let sites = ballots.votes.len().min(ballots.sites as usize);
+    let mut policy = Votes::new();
+    policy.fix(ballots.commit, ballots.abort, &ballots.votes[..sites])?;
+    Ok(policy)
+}
