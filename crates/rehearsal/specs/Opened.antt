@@ -5,4 +5,4 @@ use Rattle.net.specs.declared.net.Net.{Net}
 
 -- the net is a new one under the first coordinator f
 abbrev pub IsOpened : Net → ℕ → Type 0
-IsOpened n f = Ok n.core ≡ opening n.core.sites f
+IsOpened n f = Ok n ≡ opening n.sites f

@@ -1,13 +1,13 @@
 -- An approval as its calls see it.
 use Rattle.std.specs.Prelude.{ℕ, List, Result}
 use Rattle.sites.specs.declared.refusal.Refusal.{Refusal}
-use Rattle.rules.specs.Calls.{answer, after}
+use Rattle.rules.specs.Calls.{going_by, answer, after}
 use Rattle.rules.specs.World.{World}
 use Rattle.rules.specs.declared.call.Call.{Call}
 use Rattle.rows.specs.Rows.{row_left}
-use Rattle.votes.specs.Ballots.{Ballot, commits_of, aborts_of}
+use Rattle.votes.specs.Ballots.{Ballot, quorums_of}
 use Rattle.tokens.specs.Rows.{Row}
-use Rattle.tokens.specs.declared.reader.Place.{Place}
+use Rattle.tokens.specs.declared.token.Place.{Place}
 use Rattle.schedule.specs.declared.line.Line.{Line}
 use Rattle.rehearsal.specs.Transcript.{call_text, call_world, calls_text}
 
@@ -22,11 +22,11 @@ stage b n w = record { policy = b; sites = n; world = w }
 
 -- what a call answers and leaves
 abbrev pub call_answer : Stage → Call → Result (Unit {0}) Refusal
-call_answer s c = answer (commits_of s.policy) (aborts_of s.policy) s.policy.sites s.sites row_left s.world c
+call_answer s c = answer (going_by (quorums_of s.policy) s.sites row_left) s.world c
 
 abbrev pub call_stage : Stage → Call → Stage
 call_stage s c =
-    stage s.policy s.sites (after (commits_of s.policy) (aborts_of s.policy) s.policy.sites s.sites row_left s.world c)
+    stage s.policy s.sites (after (going_by (quorums_of s.policy) s.sites row_left) s.world c)
 
 -- what line k of the calls tells and leaves
 abbrev pub line_text : Stage → ℕ → Result Line Place → List ℕ

@@ -1,8 +1,7 @@
 -- What the steps of a rehearsal tell.
 use Rattle.std.specs.Prelude.{◌≡◌, ℕ, List, [], ◌++◌, Some, None, Option, Result, string_bytes}
-use Rattle.tokens.specs.Ahead.{ahead}
 use Rattle.tokens.specs.Rows.{Row}
-use Rattle.tokens.specs.declared.reader.Place.{Place}
+use Rattle.tokens.specs.declared.token.Place.{Place}
 use Rattle.schedule.specs.declared.line.Line.{Line}
 use Rattle.votes.specs.declared.ballot.Votes.{Votes}
 use Rattle.rehearsal.specs.Approvals.{core_of, new_stage}
@@ -15,7 +14,7 @@ use Rattle.rehearsal.specs.declared.schedules.Rehearsal.{Rehearsal}
 
 -- the text so far, and after it what f tells of the lines that are left
 abbrev pub told : Rehearsal → (List Row → List ℕ) → List ℕ
-told r f = string_bytes r.text ++ f (ahead r.reader)
+told r f = string_bytes r.text ++ f r.reader
 
 -- what follows the roster, where it opened a net
 abbrev pub after_opening : Option NewNet → List Row → List ℕ

@@ -1,17 +1,16 @@
 -- What a schedule prints.
-use Rattle.std.specs.Prelude.{ℕ, min, cond, List, [], ◌∷◌, ◌++◌, length, take, replicate, Ok, Err, Result, nat_lt}
+use Rattle.std.specs.Prelude.{ℕ, cond, List, [], ◌∷◌, ◌++◌, length, replicate, Ok, Err, Result, nat_lt}
 use Rattle.sites.specs.declared.refusal.Refusal.{Refusal}
-use Rattle.rules.specs.Calls.{answer, after}
+use Rattle.rules.specs.Calls.{going_by, answer, after}
 use Rattle.rules.specs.Entries.{starting}
-use Rattle.rules.specs.World.{World, world, no_message}
-use Rattle.rules.specs.declared.rows.Core.{Core}
-use Rattle.votes.specs.Ballots.{Ballot, commits_of, aborts_of, unfixed}
+use Rattle.rules.specs.World.{Core, World, world, no_message}
+use Rattle.votes.specs.Ballots.{Ballot, quorums_of, unfixed}
 use Rattle.votes.specs.Fixing.{fix_answer, fix_ballot}
 use Rattle.net.specs.Nets.{opening}
 use Rattle.rows.specs.Rows.{row_left}
 use Rattle.tokens.specs.Rows.{Row, rows}
 use Rattle.tokens.specs.Text.{lines}
-use Rattle.tokens.specs.declared.reader.Place.{Place}
+use Rattle.tokens.specs.declared.token.Place.{Place}
 use Rattle.schedule.specs.Lines.{spelled}
 use Rattle.schedule.specs.declared.line.Ballots.{Ballots}
 use Rattle.schedule.specs.declared.line.Line.{Line}
@@ -21,13 +20,13 @@ use Rattle.rehearsal.specs.Text.{answer_line, unreadable_line, site_lines}
 
 -- a line of the calls, over a net with policy b and n sites in the vault
 abbrev pub call_text : Ballot → ℕ → World → ℕ → Result Line Place → List ℕ
-call_text b n w k (Ok (line.Call c)) = answer_line k (answer (commits_of b) (aborts_of b) b.sites n row_left w c)
+call_text b n w k (Ok (line.Call c)) = answer_line k (answer (going_by (quorums_of b) n row_left) w c)
 call_text b n w k (Ok (line.Roster o)) = unreadable_line k 1
 call_text b n w k (Ok (line.Votes v)) = unreadable_line k 1
 call_text b n w k (Err p) = unreadable_line k p.field
 
 abbrev pub call_world : Ballot → ℕ → World → Result Line Place → World
-call_world b n w (Ok (line.Call c)) = after (commits_of b) (aborts_of b) b.sites n row_left w c
+call_world b n w (Ok (line.Call c)) = after (going_by (quorums_of b) n row_left) w c
 call_world b n w (Ok (line.Roster o)) = w
 call_world b n w (Ok (line.Votes v)) = w
 call_world b n w (Err p) = w
@@ -49,7 +48,7 @@ fixed_text (Err x) b c n f k rs = answer_line k (Err x)
 
 -- the votes of the sites that a line gives
 abbrev pub votes_of : Ballots → List ℕ
-votes_of v = take (min v.sites 16) v.votes
+votes_of v = v.votes.items
 
 abbrev pub votes_text : Core → ℕ → ℕ → ℕ → Ballots → List Row → List ℕ
 votes_text c n f k v rs =

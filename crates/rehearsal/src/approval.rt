@@ -13,11 +13,11 @@ use rules::call::Call;
 use rules::message::{Kind, Message};
 use rules::record::Record;
 use schedule::Line;
-use sites::refusal::Refusal;
+use sites::Refusal;
 use sites::set::MOST_SITES;
 use std::alloc::Global;
 use tokens::Place;
-use votes::ballot::Votes;
+use votes::Votes;
 
 // How many rows are enough for the records of any net.
 pub(crate) const ROWS: usize = MOST_SITES as usize;

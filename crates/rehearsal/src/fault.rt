@@ -3,7 +3,7 @@ ghost use Rattle.std.specs.Prelude.{◌≡◌, Some};
 ghost use Rattle.rehearsal.specs.Faults.{fault_text};
 ghost use Rattle.rehearsal.specs.declared.fault.Fault.TheVariants.{Unreadable, Refused};
 
-use sites::refusal::Refusal;
+use sites::Refusal;
 use std::fmt;
 use tokens::Place;
 
@@ -40,8 +40,8 @@ impl fmt::Display for Fault {
 
     fn fmt<W: fmt::Write>(&self, f: &mut fmt::Formatter<W>) -> fmt::Result {
         match self {
-            Fault::Unreadable { field } => write!(f, "{},{field}", Refusal::Unreadable.number()),
-            Fault::Refused(refusal) => write!(f, "{}", refusal.number()),
+            Fault::Unreadable { field } => write!(f, "{},{field}", u32::from(Refusal::Unreadable)),
+            Fault::Refused(refusal) => write!(f, "{}", u32::from(*refusal)),
         }
     }
 }

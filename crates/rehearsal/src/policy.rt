@@ -4,7 +4,7 @@ ghost use Rattle.rehearsal.specs.Steps.{Fixes};
 use crate::fault::Fault;
 use schedule::Line;
 use tokens::Place;
-use votes::ballot::Votes;
+use votes::Votes;
 
 pub(crate) fn policy_of(line: Result<Line, Place>) -> Result<Votes, Fault>
     ensures { Fixes line result }
@@ -12,8 +12,7 @@ pub(crate) fn policy_of(line: Result<Line, Place>) -> Result<Votes, Fault>
     let Line::Votes(ballots) = line? else {
         return Err(Fault::MISPLACED);
     };
-    let sites = ballots.votes.len().min(ballots.sites as usize);
     let mut policy = Votes::new();
-    policy.fix(ballots.commit, ballots.abort, &ballots.votes[..sites])?;
+    policy.fix(ballots.commit, ballots.abort, ballots.votes.as_slice())?;
     Ok(policy)
 }

@@ -1,7 +1,6 @@
 // Reads a schedule, and tells what became of each of its lines.
 ghost use Rattle.std.specs.Prelude.{◌≡◌, ◌++◌, IfOk, OnOk, string_bytes};
 ghost use Rattle.std.specs.Result.{result_ok};
-ghost use Rattle.tokens.specs.Ahead.{ahead};
 ghost use Rattle.rehearsal.specs.Faults.{answered};
 ghost use Rattle.rehearsal.specs.Stages.{calls_left};
 ghost use Rattle.rehearsal.specs.Transcript.{schedule_text, transcript};
@@ -17,7 +16,7 @@ use schedule::{Section, read_line};
 use std::alloc::Global;
 use std::fmt::Write;
 use tokens::{Place, Reader};
-use votes::ballot::Votes;
+use votes::Votes;
 
 // The most bytes of a schedule.
 pub const MOST_BYTES: usize = 65_536;
@@ -47,7 +46,7 @@ impl Rehearsal<'_> {
     ) -> Result<Option<T>, OutOfMemory>
         ensures text { OnOk result (string_bytes self.new.text ≡ string_bytes self.old.text ++ answered line made) }
         ensures made { IfOk result (λ value. value ≡ result_ok made) }
-        ensures reader { ahead self.new.reader ≡ ahead self.old.reader }
+        ensures reader { self.new.reader ≡ self.old.reader }
     {
         match made {
             Ok(value) => {

@@ -1,7 +1,6 @@
 // The lines of the sites.
 ghost use Rattle.std.specs.Prelude.{◌≡◌, ◌++◌, Some, string_bytes, OnOk};
-ghost use Rattle.rows.specs.Rows.{row_sites, row_entries};
-ghost use Rattle.rules.specs.Entries.{plain};
+ghost use Rattle.rows.specs.Rows.{row_stored};
 ghost use Rattle.rehearsal.specs.Text.{site_lines};
 
 use crate::memory::OutOfMemory;
@@ -21,7 +20,7 @@ struct SiteRecord {
 impl fmt::Display for SiteRecord {
     ghost use Rattle.rehearsal.specs.Records.{record_text};
 
-    ghost output = { λ s. Some (record_text s.site (plain s.own)) };
+    ghost output = { λ s. Some (record_text s.site s.own) };
 
     fn fmt<W: fmt::Write>(&self, f: &mut fmt::Formatter<W>) -> fmt::Result {
         let Record {
@@ -29,13 +28,12 @@ impl fmt::Display for SiteRecord {
             elected,
             attempt,
             lead,
-            ..
         } = self.own;
         write!(
             f,
             "{},{},{elected},{attempt},{lead}",
             self.site,
-            state.letter()
+            char::from(state)
         )
     }
 }
@@ -43,7 +41,7 @@ impl fmt::Display for SiteRecord {
 // All sites with their records.
 #[tactic(auto, using(crate::proofs::Sites::lines_none, crate::proofs::Sites::lines_more))]
 pub(crate) fn write_sites(text: &mut String, vault: &RowVault) -> Result<(), OutOfMemory>
-    ensures { OnOk result (string_bytes text.new ≡ string_bytes text.old ++ site_lines (row_sites vault.now) (row_entries vault.now)) }
+    ensures { OnOk result (string_bytes text.new ≡ string_bytes text.old ++ site_lines (row_stored vault.now).sites (row_stored vault.now).entries) }
 {
     for site in 0..vault.sites() {
         let own = vault.read(site).unwrap();

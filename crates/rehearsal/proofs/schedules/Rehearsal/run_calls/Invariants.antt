@@ -1,5 +1,4 @@
 use Rattle.std.proofs.Common.{◌≡◌, length}
-use Rattle.tokens.specs.Ahead.{ahead}
 use Rattle.rehearsal.specs.Approvals.{stage_of}
 use Rattle.rehearsal.specs.Stages.{calls_left}
 use Rattle.rehearsal.specs.Steps.{told}
@@ -10,4 +9,4 @@ invariant-loop-reading l =
     told l.self (calls_left (stage_of l.approval)) ≡ told l.initial.self (calls_left (stage_of l.initial.approval))
 
 abbrev pub decreases-loop-reading : goal.decreases-loop-reading
-decreases-loop-reading l = length (ahead l.self.reader)
+decreases-loop-reading l = length l.self.reader
