@@ -1,22 +1,14 @@
 -- Filling the first slots with one record for each site.
-use Rattle.std.proofs.Common.{◌≡◌, ℕ, ◌+◌, ◌<◌, ◌≤◌, List, [], ◌∷◌, ◌++◌, length, get_or, take, drop, set, replicate, sym, ap, subst, ◌∙◌, arith, length-take, length-take-le}
+use Rattle.std.proofs.Common.{◌≡◌, ℕ, ◌<◌, ◌≤◌, List, ◌++◌, length, get_or, take, drop, replicate, sym, ap, subst, ◌∙◌, arith, length-take, length-take-le}
 use Rattle.std.specs.List.{All}
-use Rattle.std.proofs.lemmas.List.FromFn.{get_or-map-range_with_len, length-map-range_with_len, map-range_with_len_more}
-use Rattle.std.proofs.lemmas.List.{append_assoc, drop_more, ext_get_or, get_or-replicate, get_or-take, length-append, length-drop, length-replicate, set_at, take_at}
+use Rattle.std.proofs.lemmas.List.FromFn.{get_or-map-range_with_len, length-map-range_with_len}
+use Rattle.std.proofs.lemmas.List.{ext_get_or, get_or-replicate, get_or-take, length-append, length-drop, length-replicate, take_at}
 use Rattle.rules.specs.Entries.{Entry, Lawful}
 use Rattle.rules.specs.World.{no_entry}
 use Rattle.journal.specs.Facts.{length_newest}
 use Rattle.journal.specs.Slots.{slot, slots_of, InOrder, LawfulSlot, newest}
 use Rattle.journal.specs.declared.slot.Slot.{Slot}
 use Rattle.journal.proofs.Replay.{first_at}
-
-pub fill_more : (xs : List Slot) (i : ℕ) (e : Entry) → i < length xs → set (slots_of i e ++ drop i xs) i (slot i e) ≡ slots_of (i + 1) e ++ drop (i + 1) xs
-fill_more xs i e h =
-    let f : ℕ → Slot = λ s. slot s e in
-    ap (λ (t : List Slot). set (slots_of i e ++ t) i (f i)) (drop_more xs i (f i) h)
-    ∙ set_at (slots_of i e) (get_or xs i (f i)) (drop (i + 1) xs) (f i) i (length-map-range_with_len f 0 i)
-    ∙ sym (append_assoc (slots_of i e) (f i ∷ []) (drop (i + 1) xs))
-    ∙ ap (λ (t : List Slot). t ++ drop (i + 1) xs) (sym (map-range_with_len_more f 0 i i (omega arith)))
 
 -- the first n of the slots xs are filled: they are the slots ys
 module _ (n : ℕ) (e : Entry) (xs ys : List Slot) (within : n ≤ length xs) (filled : ys ≡ slots_of (length (take n xs)) e) where

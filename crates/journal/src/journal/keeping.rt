@@ -43,7 +43,8 @@ impl Vault for JournalVault<'_> {
         Ok(self.newest(site))
     }
 
-    // Besides what every vault promises: a write that is not refused takes the next slot.
+    // Besides what every vault promises: a write that is not refused takes the next slot. A method with a clause of
+    // its own has it in place of the trait's, so all but `sites`, which `tied` gives, stand here again.
     fn write(&mut self, site: Site, own: Record) -> Result<(), Refusal>
         ensures answer { result ≡ write_answer (journal_stored self.old) site }
         ensures entries { (journal_stored self.new).entries ≡ entries_written result site own (journal_stored self.old).entries }
@@ -63,7 +64,8 @@ impl Vault for JournalVault<'_> {
     }
 }
 
-// Fills the slots with the record, for a site each in the order of the sites.
+// Fills the slots with the record, for a site each in the order of the sites. Of slots that are zipped with the
+// sites no proof knows what was written, so the place is the site.
 fn fill(slots: &mut [Slot], own: Record)
     requires { length slots.old < 2 ^ 32 }
     ensures { slots.new ≡ slots_of (length slots.old) own }
@@ -89,6 +91,7 @@ impl<'a> JournalVault<'a> {
         requires { site < self.now.sites }
         ensures { result ≡ slice_index_or (journal_stored self.now).entries site no_entry }
     {
+        // A part of what a `&mut` behind a `&` refers to cannot be lent, so the slice is taken whole first.
         let slots = &*self.slots;
         last_of(&slots[self.sites as usize..self.used], site)
             .unwrap_or(&slots[site as usize])
@@ -127,7 +130,8 @@ impl<'a> JournalVault<'a> {
         }
     }
 
-    // The same vault, or why there is none.
+    // The same vault, or why there is none. `new` cannot stand on this: where it refuses, the memory stays lent. And
+    // only with `new` a proof knows what the memory holds once the vault is gone.
     pub fn open(slots: &'a mut [Slot], sites: u32, first: Site) -> Result<JournalVault<'a>, Refusal>
         ensures answer { MatchResult result (λ _. opening (length slots.old) sites first ≡ Ok tt) (λ e. opening (length slots.old) sites first ≡ Err e) }
         ensures stored { IfOk result (λ v. journal_stored v ≡ journal_opened slots.old sites first) }
