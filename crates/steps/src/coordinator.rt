@@ -11,43 +11,13 @@ use rules::state::{Outcome, State};
 use rules::step::Step;
 use sites::{Refusal, Site, SiteSet};
 
-// The first coordinator, one of the sites `all`, starts the approval with its own vote.
-pub fn begin(
-    vote: Vote,
-    site: Site,
-    all: SiteSet,
-    own: Record,
-    role: Option<Role>,
-) -> Result<Step, Refusal>
-    ensures step { result ≡ begun vote site all own role }
-    ensures site { IfOk result (λ t. t.site ≡ site) }
-{
-    if own.elected > 1 {
-        return Err(Refusal::Stale);
-    }
-    if own.state != State::Initial {
-        return Err(Refusal::Unfit);
-    }
-    let to = all.without_site(site);
-    Ok(match vote {
-        Vote::Yes => Step {
-            site,
-            own: own.in_state(State::Waiting),
-            role: Some(Role::Polling(Poll {
-                yes: SiteSet::only(site),
-                no: false,
-            })),
-            kind: Kind::Start,
-            to,
-        },
-        Vote::No => Step {
-            site,
-            own: own.attempted_in(State::Aborted),
-            role,
-            kind: Kind::Abort,
-            to,
-        },
-    })
+// A site that coordinates, one of the sites `all`, with its record and its role.
+#[derive(Clone, Copy)]
+pub struct Coordinator {
+    pub site: Site,
+    pub all: SiteSet,
+    pub own: Record,
+    pub role: Option<Role>,
 }
 
 // What the votes allow.
@@ -127,46 +97,75 @@ fn group_of(all: SiteSet, role: &Role) -> SiteSet
     }
 }
 
-// The coordinator carries out a ruling in its group.
-fn carry_out(ruling: Ruling, site: Site, group: SiteSet, own: Record) -> Step
-    ensures step { result ≡ ruled_step site group own ruling }
-    ensures site { result.site ≡ site }
-{
-    let to = group.without_site(site);
-    match ruling {
-        Ruling::Attempt(outcome) => Step {
-            site,
-            own: own.attempted_in(outcome.pre_state()),
-            role: Some(Role::Attempting(Attempt {
-                outcome,
-                group,
-                acked: SiteSet::only(site),
-            })),
-            kind: Kind::of_attempt(outcome),
-            to,
-        },
-        Ruling::Decide(outcome) => Step {
-            site,
-            own: own.attempted_in(outcome.final_state()),
-            role: None,
-            kind: Kind::of_decision(outcome),
-            to,
-        },
+impl Coordinator {
+    // The first coordinator starts the approval with its own vote.
+    pub fn begin(&self, vote: Vote) -> Result<Step, Refusal>
+        ensures step { result ≡ begun vote self.now.site self.now.all self.now.own self.now.role }
+        ensures site { IfOk result (λ t. t.site ≡ self.now.site) }
+    {
+        if self.own.elected > 1 {
+            return Err(Refusal::Stale);
+        }
+        if self.own.state != State::Initial {
+            return Err(Refusal::Unfit);
+        }
+        let to = self.all.without_site(self.site);
+        Ok(match vote {
+            Vote::Yes => Step {
+                site: self.site,
+                own: self.own.in_state(State::Waiting),
+                role: Some(Role::Polling(Poll {
+                    yes: SiteSet::only(self.site),
+                    no: false,
+                })),
+                kind: Kind::Start,
+                to,
+            },
+            Vote::No => Step {
+                site: self.site,
+                own: self.own.attempted_in(State::Aborted),
+                role: self.role,
+                kind: Kind::Abort,
+                to,
+            },
+        })
     }
-}
 
-// The next step of a coordinator among the sites `all`, by its role.
-pub fn advance<P: Policy>(
-    policy: &P,
-    all: SiteSet,
-    site: Site,
-    own: Record,
-    role: Option<Role>,
-) -> Result<Step, Refusal>
-    ensures step { result ≡ advanced (P.quorums policy.now) all site own role }
-    ensures site { IfOk result (λ t. t.site ≡ site) }
-{
-    let role = role.ok_or(Refusal::Unfit)?;
-    let ruling = ruling(policy, all, &role).ok_or(Refusal::Undecided)?;
-    Ok(carry_out(ruling, site, group_of(all, &role), own))
+    // It carries out a ruling in its group.
+    fn carry_out(&self, ruling: Ruling, group: SiteSet) -> Step
+        ensures step { result ≡ ruled_step self.now.site group self.now.own ruling }
+        ensures site { result.site ≡ self.now.site }
+    {
+        let to = group.without_site(self.site);
+        match ruling {
+            Ruling::Attempt(outcome) => Step {
+                site: self.site,
+                own: self.own.attempted_in(outcome.pre_state()),
+                role: Some(Role::Attempting(Attempt {
+                    outcome,
+                    group,
+                    acked: SiteSet::only(self.site),
+                })),
+                kind: Kind::of_attempt(outcome),
+                to,
+            },
+            Ruling::Decide(outcome) => Step {
+                site: self.site,
+                own: self.own.attempted_in(outcome.final_state()),
+                role: None,
+                kind: Kind::of_decision(outcome),
+                to,
+            },
+        }
+    }
+
+    // Its next step, by its role.
+    pub fn advance<P: Policy>(&self, policy: &P) -> Result<Step, Refusal>
+        ensures step { result ≡ advanced (P.quorums policy.now) self.now.all self.now.site self.now.own self.now.role }
+        ensures site { IfOk result (λ t. t.site ≡ self.now.site) }
+    {
+        let role = self.role.ok_or(Refusal::Unfit)?;
+        let ruling = ruling(policy, self.all, &role).ok_or(Refusal::Undecided)?;
+        Ok(self.carry_out(ruling, group_of(self.all, &role)))
+    }
 }

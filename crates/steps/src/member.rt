@@ -27,110 +27,111 @@ fn matches(own: Record, message: Message) -> bool
     own.elected == message.number && own.lead == coordinator
 }
 
-// The receiver of a start votes.
-pub fn vote(vote: Vote, message: Message, own: Record, role: Option<Role>) -> Result<Step, Refusal>
-    ensures step { result ≡ voted vote message own role }
-    ensures site { IfOk result (λ t. t.site ≡ message.receiver) }
-{
-    if !matches(own, message) {
-        return Err(Refusal::Stale);
-    }
-    if own.state != State::Initial {
-        return Err(Refusal::Unfit);
-    }
-    Ok(Step {
-        site: message.receiver,
-        own: own.in_state(vote.state()),
-        role,
-        kind: Kind::of_vote(vote),
-        to: SiteSet::only(message.sender),
-    })
+// A message, with the record and the role of its receiver.
+#[derive(Clone, Copy)]
+pub struct Receipt {
+    pub message: Message,
+    pub own: Record,
+    pub role: Option<Role>,
 }
 
-// The receiver goes under a greater number, drops its role and reports.
-fn join(message: Message, own: Record) -> Result<Step, Refusal>
-    ensures step { result ≡ elected_to message own (join own message.number message.sender) }
-    ensures site { IfOk result (λ t. t.site ≡ message.receiver) }
-{
-    let joined = own
-        .joined(message.number, message.sender)
-        .ok_or(Refusal::Stale)?;
-    Ok(Step {
-        site: message.receiver,
-        own: joined,
-        role: None,
-        kind: Kind::Report {
-            state: own.state,
-            attempt: own.attempt,
-        },
-        to: SiteSet::only(message.sender),
-    })
-}
+impl Receipt {
+    // The receiver of a start votes.
+    pub fn vote(&self, vote: Vote) -> Result<Step, Refusal>
+        ensures step { result ≡ voted vote self.now.message self.now.own self.now.role }
+        ensures site { IfOk result (λ t. t.site ≡ self.now.message.receiver) }
+    {
+        if !matches(self.own, self.message) {
+            return Err(Refusal::Stale);
+        }
+        if self.own.state != State::Initial {
+            return Err(Refusal::Unfit);
+        }
+        Ok(Step {
+            site: self.message.receiver,
+            own: self.own.in_state(vote.state()),
+            role: self.role,
+            kind: Kind::of_vote(vote),
+            to: SiteSet::only(self.message.sender),
+        })
+    }
 
-// An attempt reaches the receiver, which acknowledges it.
-fn acknowledge(
-    outcome: Outcome,
-    message: Message,
-    own: Record,
-    role: Option<Role>,
-) -> Result<Step, Refusal>
-    ensures step { result ≡ attempted outcome message own role }
-    ensures site { IfOk result (λ t. t.site ≡ message.receiver) }
-{
-    if !matches(own, message) {
-        return Err(Refusal::Stale);
+    // The receiver goes under a greater number, drops its role and reports.
+    fn join(&self) -> Result<Step, Refusal>
+        ensures step { result ≡ elected_to self.now.message self.now.own (join self.now.own self.now.message.number self.now.message.sender) }
+        ensures site { IfOk result (λ t. t.site ≡ self.now.message.receiver) }
+    {
+        let joined = self
+            .own
+            .joined(self.message.number, self.message.sender)
+            .ok_or(Refusal::Stale)?;
+        Ok(Step {
+            site: self.message.receiver,
+            own: joined,
+            role: None,
+            kind: Kind::Report {
+                state: self.own.state,
+                attempt: self.own.attempt,
+            },
+            to: SiteSet::only(self.message.sender),
+        })
     }
-    if own.state.is_decided() || own.attempt >= message.number {
-        return Err(Refusal::Unfit);
-    }
-    Ok(Step {
-        site: message.receiver,
-        own: own.attempted_in(outcome.pre_state()),
-        role,
-        kind: Kind::Ack,
-        to: SiteSet::only(message.sender),
-    })
-}
 
-// A decision reaches the receiver, which sends nothing.
-fn conclude(
-    outcome: Outcome,
-    message: Message,
-    own: Record,
-    role: Option<Role>,
-) -> Result<Step, Refusal>
-    ensures step { result ≡ concluded outcome message own role }
-    ensures site { IfOk result (λ t. t.site ≡ message.receiver) }
-{
-    if !matches(own, message) {
-        return Err(Refusal::Stale);
+    // An attempt reaches the receiver, which acknowledges it.
+    fn acknowledge(&self, outcome: Outcome) -> Result<Step, Refusal>
+        ensures step { result ≡ attempted outcome self.now.message self.now.own self.now.role }
+        ensures site { IfOk result (λ t. t.site ≡ self.now.message.receiver) }
+    {
+        if !matches(self.own, self.message) {
+            return Err(Refusal::Stale);
+        }
+        if self.own.state.is_decided() || self.own.attempt >= self.message.number {
+            return Err(Refusal::Unfit);
+        }
+        Ok(Step {
+            site: self.message.receiver,
+            own: self.own.attempted_in(outcome.pre_state()),
+            role: self.role,
+            kind: Kind::Ack,
+            to: SiteSet::only(self.message.sender),
+        })
     }
-    if own.state.is_decided() {
-        return Err(Refusal::Unfit);
-    }
-    Ok(Step {
-        site: message.receiver,
-        own: own.in_state(outcome.final_state()),
-        role,
-        kind: Kind::of_decision(outcome),
-        to: SiteSet::EMPTY,
-    })
-}
 
-// The receiver of a message that is not counted takes its step.
-pub fn receive(message: Message, own: Record, role: Option<Role>) -> Result<Step, Refusal>
-    ensures step { result ≡ received message.kind message own role }
-    ensures site { IfOk result (λ t. t.site ≡ message.receiver) }
-{
-    match message.kind {
-        Kind::Elected => join(message, own),
-        Kind::PreCommit => acknowledge(Outcome::Commit, message, own, role),
-        Kind::PreAbort => acknowledge(Outcome::Abort, message, own, role),
-        Kind::Commit => conclude(Outcome::Commit, message, own, role),
-        Kind::Abort => conclude(Outcome::Abort, message, own, role),
-        Kind::Start | Kind::Yes | Kind::No | Kind::Report { .. } | Kind::Ack => Err(
-            Refusal::WrongKind,
-        ),
+    // A decision reaches the receiver, which sends nothing.
+    fn conclude(&self, outcome: Outcome) -> Result<Step, Refusal>
+        ensures step { result ≡ concluded outcome self.now.message self.now.own self.now.role }
+        ensures site { IfOk result (λ t. t.site ≡ self.now.message.receiver) }
+    {
+        if !matches(self.own, self.message) {
+            return Err(Refusal::Stale);
+        }
+        if self.own.state.is_decided() {
+            return Err(Refusal::Unfit);
+        }
+        Ok(Step {
+            site: self.message.receiver,
+            own: self.own.in_state(outcome.final_state()),
+            role: self.role,
+            kind: Kind::of_decision(outcome),
+            to: SiteSet::EMPTY,
+        })
+    }
+
+    // The receiver of a message that is not counted takes its step.
+    pub fn receive(&self) -> Result<Step, Refusal>
+        ensures step { result ≡ received self.now.message.kind self.now.message self.now.own self.now.role }
+        ensures site { IfOk result (λ t. t.site ≡ self.now.message.receiver) }
+    {
+        match self.message.kind {
+            Kind::Elected => self.join(),
+            Kind::PreCommit => self.acknowledge(Outcome::Commit),
+            Kind::PreAbort => self.acknowledge(Outcome::Abort),
+            Kind::Commit => self.conclude(Outcome::Commit),
+            Kind::Abort => self.conclude(Outcome::Abort),
+            Kind::Start | Kind::Yes | Kind::No | Kind::Report { .. } | Kind::Ack => {
+                Err(Refusal::WrongKind)
+            }
+        }
     }
 }
 

@@ -1,7 +1,8 @@
 // From what a site is to do to what was done.
 ghost use Rattle.std.specs.Prelude.{◌≡◌, ◌<◌, true, IfOk};
-ghost use Rattle.rules.specs.World.{world_with, with_rows, with_role, admitted, applied, answer_of, after_of, accepted, Left};
+ghost use Rattle.rules.specs.World.{world_with, with_rows, with_role, applied, answer_of, accepted, Left};
 ghost use Rattle.net.specs.Bounds.{Near, Within};
+ghost use Rattle.net.specs.Carried.{carried, done};
 
 use super::Net;
 use post::{Broadcast, has_room};
@@ -32,7 +33,7 @@ impl Net {
         asked: Result<Step, Refusal>,
     ) -> Result<Step, Refusal>
         requires { IfOk asked (λ t. Near (V.stored vault.now).sites t.site) }
-        ensures is { result ≡ admitted (V.stored vault.now).left (world_with self.now (V.stored vault.now) list.now) asked }
+        ensures is { result ≡ carried self.now (V.stored vault.now) list.now asked }
         ensures within { IfOk result (λ t. Within (world_with self.now (V.stored vault.now) list.now) (V.stored vault.now) t) }
     {
         let step = asked?;
@@ -82,10 +83,10 @@ impl Net {
         asked: Result<Step, Refusal>,
     ) -> Result<(), Refusal>
         requires { IfOk asked (λ t. Near (V.stored vault.old).sites t.site) }
-        ensures answer { result ≡ answer_of (admitted (V.stored vault.old).left (world_with self.old (V.stored vault.old) list.old) asked) }
-        ensures net { self.new ≡ (after_of (world_with self.old (V.stored vault.old) list.old) (admitted (V.stored vault.old).left (world_with self.old (V.stored vault.old) list.old) asked)).net }
-        ensures entries { (V.stored vault.new).entries ≡ (after_of (world_with self.old (V.stored vault.old) list.old) (admitted (V.stored vault.old).left (world_with self.old (V.stored vault.old) list.old) asked)).entries }
-        ensures list { list.new ≡ (after_of (world_with self.old (V.stored vault.old) list.old) (admitted (V.stored vault.old).left (world_with self.old (V.stored vault.old) list.old) asked)).messages }
+        ensures answer { result ≡ answer_of (carried self.old (V.stored vault.old) list.old asked) }
+        ensures net { self.new ≡ (done self.old (V.stored vault.old) list.old asked).net }
+        ensures entries { (V.stored vault.new).entries ≡ (done self.old (V.stored vault.old) list.old asked).entries }
+        ensures list { list.new ≡ (done self.old (V.stored vault.old) list.old asked).messages }
         ensures sites { (V.stored vault.new).sites ≡ (V.stored vault.old).sites }
         ensures left { Left (accepted result) (V.stored vault.old).left (V.stored vault.new).left }
         ensures tied { V.tied vault.old vault.new }

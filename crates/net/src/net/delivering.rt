@@ -1,16 +1,17 @@
 // A delivery: a message is counted in place, or makes its receiver take a step.
 ghost use Rattle.std.specs.Prelude.{◌≡◌, ◌<◌, Ok, slice_index_or};
-ghost use Rattle.rules.specs.Calls.{delivery_answer, delivery_after, delivery_writes, receipt_of};
+ghost use Rattle.rules.specs.Calls.{delivery_answer, delivery_after, delivery_writes};
 ghost use Rattle.rules.specs.Plans.{tallied, role_after};
-ghost use Rattle.rules.specs.World.{world_with, row_at, no_entry, with_rows, with_role, count_answer, count_net, admitted, answer_of, after_of, accepted, Left};
+ghost use Rattle.rules.specs.World.{world_with, row_at, no_entry, with_rows, with_role, count_answer, count_net, answer_of, accepted, Left};
 ghost use Rattle.net.specs.Bounds.{Near};
+ghost use Rattle.net.specs.Carried.{carried, done, receipt};
 
 use super::Net;
 use super::finding::record_of;
 use rules::message::Message;
 use rules::record::Record;
 use sites::Refusal;
-use steps::member;
+use steps::member::{self, Receipt};
 use vault::Vault;
 
 impl Net {
@@ -41,17 +42,20 @@ impl Net {
         message: Message,
     ) -> Result<(), Refusal>
         requires { Near (V.stored vault.old).sites message.receiver }
-        ensures answer { result ≡ answer_of (admitted (V.stored vault.old).left (world_with self.old (V.stored vault.old) list.old) (receipt_of (world_with self.old (V.stored vault.old) list.old) message)) }
-        ensures net { self.new ≡ (after_of (world_with self.old (V.stored vault.old) list.old) (admitted (V.stored vault.old).left (world_with self.old (V.stored vault.old) list.old) (receipt_of (world_with self.old (V.stored vault.old) list.old) message))).net }
-        ensures entries { (V.stored vault.new).entries ≡ (after_of (world_with self.old (V.stored vault.old) list.old) (admitted (V.stored vault.old).left (world_with self.old (V.stored vault.old) list.old) (receipt_of (world_with self.old (V.stored vault.old) list.old) message))).entries }
-        ensures list { list.new ≡ (after_of (world_with self.old (V.stored vault.old) list.old) (admitted (V.stored vault.old).left (world_with self.old (V.stored vault.old) list.old) (receipt_of (world_with self.old (V.stored vault.old) list.old) message))).messages }
+        ensures answer { result ≡ answer_of (carried self.old (V.stored vault.old) list.old (receipt self.old (V.stored vault.old) list.old message)) }
+        ensures net { self.new ≡ (done self.old (V.stored vault.old) list.old (receipt self.old (V.stored vault.old) list.old message)).net }
+        ensures entries { (V.stored vault.new).entries ≡ (done self.old (V.stored vault.old) list.old (receipt self.old (V.stored vault.old) list.old message)).entries }
+        ensures list { list.new ≡ (done self.old (V.stored vault.old) list.old (receipt self.old (V.stored vault.old) list.old message)).messages }
         ensures sites { (V.stored vault.new).sites ≡ (V.stored vault.old).sites }
         ensures left { Left (accepted result) (V.stored vault.old).left (V.stored vault.new).left }
         ensures tied { V.tied vault.old vault.new }
     {
-        let own = record_of(vault, message.receiver);
-        let role = self.row(message.receiver).role;
-        self.carry(vault, list, member::receive(message, own, role))
+        let receipt = Receipt {
+            message,
+            own: record_of(vault, message.receiver),
+            role: self.row(message.receiver).role,
+        };
+        self.carry(vault, list, receipt.receive())
     }
 
     // What a message does at its receiver.

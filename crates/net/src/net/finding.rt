@@ -14,7 +14,8 @@ use rules::records::MOST_NUMBER;
 use rules::rows::Row;
 use rules::step::Step;
 use sites::{Refusal, Site, SiteSet};
-use steps::{coordinator, member};
+use steps::coordinator::Coordinator;
+use steps::member::Receipt;
 use vault::Vault;
 
 // The record of a site that the vault has.
@@ -79,8 +80,13 @@ impl Net {
         }
         let first = self.first;
         let row = self.row_up(first)?;
-        let own = record_of(vault, first);
-        coordinator::begin(vote, first, SiteSet::everyone(self.sites), own, row.role)
+        let coordinator = Coordinator {
+            site: first,
+            all: SiteSet::everyone(self.sites),
+            own: record_of(vault, first),
+            role: row.role,
+        };
+        coordinator.begin(vote)
     }
 
     // What advance asks of a coordinator.
@@ -101,8 +107,13 @@ impl Net {
         if !row.up {
             return Err(Refusal::WrongPower);
         }
-        let own = record_of(vault, site);
-        coordinator::advance(policy, SiteSet::everyone(self.sites), site, own, row.role)
+        let coordinator = Coordinator {
+            site,
+            all: SiteSet::everyone(self.sites),
+            own: record_of(vault, site),
+            role: row.role,
+        };
+        coordinator.advance(policy)
     }
 
     // The message at a place.
@@ -170,7 +181,11 @@ impl Net {
             return Err(Refusal::WrongKind);
         }
         let row = self.row_up(message.receiver)?;
-        let own = record_of(vault, message.receiver);
-        member::vote(vote, message, own, row.role)
+        let receipt = Receipt {
+            message,
+            own: record_of(vault, message.receiver),
+            role: row.role,
+        };
+        receipt.vote(vote)
     }
 }

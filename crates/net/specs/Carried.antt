@@ -1,0 +1,19 @@
+-- What becomes of a step that is asked for, by the net, what the vault holds, and the list.
+use Rattle.std.specs.Prelude.{List, Result}
+use Rattle.sites.specs.declared.refusal.Refusal.{Refusal}
+use Rattle.rules.specs.Calls.{receipt_of}
+use Rattle.rules.specs.World.{World, Core, Stored, world_with, admitted, after_of}
+use Rattle.rules.specs.declared.message.Message.{Message}
+use Rattle.rules.specs.declared.step.Step.{Step}
+
+-- it is admitted if there is room for it
+abbrev pub carried : Core → Stored → List Message → Result Step Refusal → Result Step Refusal
+carried c v ms x = admitted v.left (world_with c v ms) x
+
+-- and made
+abbrev pub done : Core → Stored → List Message → Result Step Refusal → World
+done c v ms x = after_of (world_with c v ms) (carried c v ms x)
+
+-- what the receiver of a message asks for
+abbrev pub receipt : Core → Stored → List Message → Message → Result Step Refusal
+receipt c v ms m = receipt_of (world_with c v ms) m
