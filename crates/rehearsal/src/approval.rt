@@ -12,15 +12,12 @@ use rows::rows::RowVault;
 use rules::call::Call;
 use rules::message::{Kind, Message};
 use rules::record::Record;
+use rules::rows::ROWS;
 use schedule::Line;
 use sites::Refusal;
-use sites::set::MOST_SITES;
 use std::alloc::Global;
 use tokens::Place;
 use votes::Votes;
-
-// How many rows are enough for the records of any net.
-pub(crate) const ROWS: usize = MOST_SITES as usize;
 
 // What stands at the places of the list that no message has.
 const NO_MESSAGE: Message = Message {

@@ -5,13 +5,14 @@ ghost use Rattle.rehearsal.specs.Faults.{answered};
 ghost use Rattle.rehearsal.specs.Stages.{calls_left};
 ghost use Rattle.rehearsal.specs.Transcript.{schedule_text, transcript};
 
-use crate::approval::{Approval, ROWS};
+use crate::approval::Approval;
 use crate::fault::Fault;
 use crate::memory::OutOfMemory;
 use crate::opening::NewNet;
 use crate::policy::policy_of;
 use crate::text::write_sites;
 use rules::record::Record;
+use rules::rows::ROWS;
 use schedule::{Section, read_line};
 use std::alloc::Global;
 use std::fmt::Write;

@@ -11,7 +11,7 @@ use quorum::Policy;
 use rules::call::Vote;
 use rules::message::Message;
 use rules::role::Role;
-use rules::rows::{Row, Rows};
+use rules::rows::{ROWS, Row, Rows};
 use sites::roster::is_seated;
 use sites::{Refusal, Site};
 use vault::Vault;
@@ -32,7 +32,7 @@ impl Net {
             sites,
             first,
             sent: 0,
-            rows: Rows { row: [row; 16] },
+            rows: Rows { row: [row; ROWS] },
         })
     }
 

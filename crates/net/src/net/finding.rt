@@ -1,4 +1,5 @@
-// What a call finds: all checks but those for room.
+// What a call finds: all checks but those for room. Policy, vault and list are handed over one by one, as each call has them:
+// a struct of the three loans would put one more name into every clause, for no fact.
 ghost use Rattle.std.specs.Prelude.{◌≡◌, ◌<◌, nat_lt, ◌≤◌, if◌then◌else◌, Ok, Err, IfOk, slice_index_or};
 ghost use Rattle.sites.specs.declared.refusal.Refusal.TheVariants.{WrongPower, UnknownSite};
 ghost use Rattle.rules.specs.Calls.{terms, fitting, asked_begin, asked_vote, asked_advance, found, to_deliver_at, sound};
