@@ -1,12 +1,12 @@
 -- A journal vault has one lawful record for each site, and its memory is only appended to.
 use Rattle.std.specs.Prelude.{◌≡◌, ℕ, ◌+◌, ◌-◌, ◌≤◌, List, [], ◌∷◌, length, take, drop, replicate, slice_index_or, refl}
 use Rattle.std.specs.List.{All, fold}
-use Rattle.std.proofs.Common.{sym, ap, subst, ◌∙◌, ⊎_elim, arith, length-set, take-take, drop-drop}
-use Rattle.std.proofs.lemmas.Bool.{cases_lt}
-use Rattle.std.proofs.lemmas.List.{get_or_past, length-replicate}
+use Rattle.std.proofs.Common.{sym, ap, ◌∙◌, arith, length-set, take-take, drop-drop}
+use Rattle.std.proofs.lemmas.List.{length-replicate}
 use Rattle.std.proofs.lemmas.List.Elements.{All-head, All-replicate, All-set, All-tail}
 use Rattle.rules.specs.Entries.{Entry, Lawful}
 use Rattle.rules.specs.World.{no_entry}
+use Rattle.vault.specs.Records.{lawful_none, lawful_at}
 use Rattle.journal.specs.Journal.{journal_stored, used_slots, Appended}
 use Rattle.journal.specs.Slots.{LawfulSlot, put, newest}
 use Rattle.journal.specs.declared.journal.JournalVault.{JournalVault}
@@ -22,9 +22,6 @@ length_newest n xs = length_folded xs (replicate n no_entry) ∙ length-replicat
 pub journal_whole : (v : JournalVault) → length (journal_stored v).entries ≡ (journal_stored v).sites
 journal_whole v = length_newest v.sites (used_slots v)
 
-lawful_none : Lawful no_entry
-lawful_none = (omega arith, omega arith, omega arith, omega arith)
-
 lawful_folded : (xs : List Slot) (es : List Entry) → All LawfulSlot xs → All Lawful es → All Lawful (fold put es xs)
 lawful_folded [] es h l = l
 lawful_folded (x ∷ xs) es h l =
@@ -32,11 +29,8 @@ lawful_folded (x ∷ xs) es h l =
 
 pub journal_lawful : (v : JournalVault) (s : ℕ) → Lawful (slice_index_or (journal_stored v).entries s no_entry)
 journal_lawful v s =
-    let start = replicate v.sites no_entry in
-    let es = (journal_stored v).entries in
-    ⊎_elim
-    (lawful_folded (used_slots v) start v.written (All-replicate Lawful v.sites no_entry lawful_none) s no_entry)
-    (λ h. subst Lawful (sym (get_or_past es s no_entry h)) lawful_none) (cases_lt s (length es))
+    let start = All-replicate Lawful v.sites no_entry lawful_none in
+    lawful_at (journal_stored v).entries (lawful_folded (used_slots v) (replicate v.sites no_entry) v.written start) s
 
 pub appended_alike : (v : JournalVault) → Appended v v
 appended_alike v = record { memory = refl; size = refl; sites = refl; grown = omega arith; before = refl; after = refl }

@@ -1,23 +1,17 @@
 -- A row vault has one lawful record for each site, and keeps its memory.
 use Rattle.std.specs.Prelude.{◌≡◌, ℕ, length, drop, slice_index_or, refl}
-use Rattle.std.proofs.Common.{sym, ap, subst, ◌∙◌, ⊎_elim, arith, length-take}
-use Rattle.std.proofs.lemmas.Bool.{cases_lt}
-use Rattle.std.proofs.lemmas.List.{get_or_past}
+use Rattle.std.proofs.Common.{sym, ap, ◌∙◌, arith, length-take}
 use Rattle.rules.specs.Entries.{Lawful}
 use Rattle.rules.specs.World.{no_entry}
+use Rattle.vault.specs.Records.{lawful_at}
 use Rattle.rows.specs.Rows.{row_stored, SameMemory}
 use Rattle.rows.specs.declared.rows.RowVault.{RowVault}
 
 pub rows_whole : (v : RowVault) → length (row_stored v).entries ≡ (row_stored v).sites
 rows_whole v = omega (arith, v.held, length-take v.sites v.rows.now)
 
-lawful_none : Lawful no_entry
-lawful_none = (omega arith, omega arith, omega arith, omega arith)
-
 pub rows_lawful : (v : RowVault) (s : ℕ) → Lawful (slice_index_or (row_stored v).entries s no_entry)
-rows_lawful v s =
-    let es = (row_stored v).entries in
-    ⊎_elim (v.written s no_entry) (λ h. subst Lawful (sym (get_or_past es s no_entry h)) lawful_none) (cases_lt s (length es))
+rows_lawful v s = lawful_at (row_stored v).entries v.written s
 
 pub memory_alike : (v : RowVault) → SameMemory v v
 memory_alike v = (refl, refl, refl)

@@ -7,7 +7,7 @@ use crate::part::up_to;
 use std::marker::Model;
 
 // Reads the lent input line by line. What it is to a caller: the lines that are left, as rows.
-#[derive(Drop)]
+#[derive(Clone, Drop)]
 pub struct Reader<'a> {
     input: &'a [u8],
     // Where the next line begins.
