@@ -1,5 +1,7 @@
 // What a policy of listed sets judges of a set of sites.
 ghost use Rattle.std.specs.Prelude.{◌≡◌};
+ghost use Rattle.std.specs.List.{list_any};
+ghost use Rattle.sites.specs.Sets.{includes};
 ghost use Rattle.listed.specs.Listings.{listed_quorum, quorums_of};
 ghost use Rattle.listed.specs.Crosses.{listing_crosses, listed_known};
 
@@ -7,12 +9,19 @@ use crate::listing::Listed;
 use quorum::Policy;
 use sites::SiteSet;
 
+// Includes the group one of the sets?
+fn includes_one(group: SiteSet, sets: &[SiteSet]) -> bool
+    ensures { result ≡ list_any (includes group) sets.now }
+{
+    sets.iter().any(|listed| group.includes(*listed))
+}
+
 impl Listed {
     // Has the group no unknown site, and includes it one of the sets? Both kinds of quorum ask this, each with its sets.
     fn is_quorum(&self, sets: &[SiteSet], group: SiteSet) -> bool
         ensures { result ≡ listed_quorum self.now.listing.sites sets.now group }
     {
-        group.is_known(self.sites()) && sets.iter().any(|listed| group.includes(*listed))
+        group.is_known(self.sites()) && includes_one(group, sets)
     }
 }
 
