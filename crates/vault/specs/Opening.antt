@@ -12,6 +12,11 @@ opening k n f =
     (cond (nat_le n k) (Ok tt) (Err refusal.VaultFull))
     (Err refusal.SiteCount)
 
+-- the record that each site starts with, where the check does not refuse
+abbrev pub started : Result (Unit {0}) Refusal → ℕ → Result Entry Refusal
+started (Ok u) f = Ok (starting f)
+started (Err x) f = Err x
+
 -- none where the check refuses
 abbrev pub opened_sites : Result (Unit {0}) Refusal → ℕ → ℕ
 opened_sites (Ok u) n = n

@@ -1,7 +1,8 @@
 // The check before a vault is made on the caller's memory.
 ghost use Rattle.std.specs.Prelude.{◌≡◌};
-ghost use Rattle.vault.specs.Opening.{opening};
+ghost use Rattle.vault.specs.Opening.{opening, started};
 
+use rules::record::Record;
 use sites::roster::is_seated;
 use sites::{Refusal, Site};
 
@@ -16,4 +17,12 @@ pub fn check(places: usize, sites: u32, first: Site) -> Result<(), Refusal>
         return Err(Refusal::VaultFull);
     }
     Ok(())
+}
+
+// The record that each site starts with in such a memory.
+pub fn start(places: usize, sites: u32, first: Site) -> Result<Record, Refusal>
+    ensures { result ≡ started (opening places sites first) first }
+{
+    check(places, sites, first)?;
+    Ok(Record::starting(first).unwrap())
 }

@@ -112,10 +112,7 @@ impl<'a> JournalVault<'a> {
         ensures memory { result.slots.now ≡ slots_opened slots.old sites first }
         ensures lent { result.slots.ghost_name ≡ slots.entry.ghost_name }
     {
-        let (Ok(()), Some(own)) = (
-            JournalVault::check(slots, sites, first),
-            Record::starting(first),
-        ) else {
+        let Ok(own) = opening::start(slots.len(), sites, first) else {
             return JournalVault {
                 slots,
                 used: 0,

@@ -62,8 +62,7 @@ impl<'a> RowVault<'a> {
         ensures memory { result.rows.now ≡ rows_opened rows.old sites first }
         ensures lent { result.rows.ghost_name ≡ rows.entry.ghost_name }
     {
-        let (Ok(()), Some(own)) = (RowVault::check(rows, sites, first), Record::starting(first))
-        else {
+        let Ok(own) = opening::start(rows.len(), sites, first) else {
             return RowVault { rows, sites: 0 };
         };
         rows[..sites as usize].fill(own);
