@@ -34,6 +34,7 @@ impl Broadcast {
     // Writes the messages from the place `sent` on, and answers the place after them.
     //
     // The place is counted by hand: of a list that is written through an iterator, nothing would be known afterwards.
+    #[tactic(auto, using(crate::proofs::Sizes::below_none, crate::proofs::Sizes::room_for, crate::proofs::Writing::length_written))]
     fn write_all(&self, list: &mut [Message], sent: usize) -> usize
         requires { sent + size self.now.to ≤ length list.old }
         ensures list { list.new ≡ written list.old sent (sent_to_each self.now) }
@@ -68,6 +69,7 @@ impl Broadcast {
 }
 
 // What writing means: earlier places stay, then stand the new messages, and later places stay.
+#[tactic(auto, using(crate::proofs::Writing::written_as))]
 pub fn written_as()
     ensures { WrittenAs }
 {}

@@ -1,5 +1,6 @@
 // What the receiver of a message does.
-ghost use Rattle.std.specs.Prelude.{◌≡◌, IfOk};
+ghost use Rattle.std.specs.Prelude.{◌≡◌, if◌then◌else◌, Ok, Err, IfOk};
+ghost use Rattle.sites.specs.declared.refusal.Refusal.TheVariants.{Stale};
 ghost use Rattle.rules.specs.Counting.{matches, counts};
 ghost use Rattle.rules.specs.Entries.{join};
 ghost use Rattle.rules.specs.Plans.{voted, received, attempted, concluded, elected_to, tallied, role_after};
@@ -15,16 +16,20 @@ use rules::state::{Outcome, State};
 use rules::step::Step;
 use sites::{Refusal, SiteSet};
 
-// Is the receiver at the number of the message, under the coordinator that it is about?
-fn matches(own: Record, message: Message) -> bool
-    ensures { result ≡ matches own message }
+// Is the receiver at the number of the message, under the coordinator that it is about? Else the message is stale.
+fn matched(own: Record, message: Message) -> Result<(), Refusal>
+    ensures { result ≡ (if matches own message then Ok tt else Err Stale) }
 {
     let coordinator = if counts(message.kind) {
         message.receiver
     } else {
         message.sender
     };
-    own.elected == message.number && own.lead == coordinator
+    if own.elected == message.number && own.lead == coordinator {
+        Ok(())
+    } else {
+        Err(Refusal::Stale)
+    }
 }
 
 // A message, with the record and the role of its receiver.
@@ -41,9 +46,7 @@ impl Receipt {
         ensures step { result ≡ voted vote self.now.message self.now.own self.now.role }
         ensures site { IfOk result (λ t. t.site ≡ self.now.message.receiver) }
     {
-        if !matches(self.own, self.message) {
-            return Err(Refusal::Stale);
-        }
+        matched(self.own, self.message)?;
         if self.own.state != State::Initial {
             return Err(Refusal::Unfit);
         }
@@ -82,9 +85,7 @@ impl Receipt {
         ensures step { result ≡ attempted outcome self.now.message self.now.own self.now.role }
         ensures site { IfOk result (λ t. t.site ≡ self.now.message.receiver) }
     {
-        if !matches(self.own, self.message) {
-            return Err(Refusal::Stale);
-        }
+        matched(self.own, self.message)?;
         if self.own.state.is_decided() || self.own.attempt >= self.message.number {
             return Err(Refusal::Unfit);
         }
@@ -102,9 +103,7 @@ impl Receipt {
         ensures step { result ≡ concluded outcome self.now.message self.now.own self.now.role }
         ensures site { IfOk result (λ t. t.site ≡ self.now.message.receiver) }
     {
-        if !matches(self.own, self.message) {
-            return Err(Refusal::Stale);
-        }
+        matched(self.own, self.message)?;
         if self.own.state.is_decided() {
             return Err(Refusal::Unfit);
         }
@@ -148,8 +147,6 @@ pub fn tally(row: &mut Row, message: Message, own: Record) -> Result<(), Refusal
     ensures role { row.new.role ≡ role_after (tallied message own row.old.role) row.old.role }
     ensures answer { result ≡ count_answer (tallied message own row.old.role) }
 {
-    if !matches(own, message) {
-        return Err(Refusal::Stale);
-    }
+    matched(own, message)?;
     count(row, message.kind, message.sender)
 }

@@ -25,6 +25,7 @@ impl Net {
     }
 
     // Counts a message at its receiver.
+    #[tactic(auto, using(crate::proofs::Counted::counted_net))]
     fn count_message<V: Vault>(&mut self, vault: &V, message: Message) -> Result<(), Refusal>
         requires { Near (V.stored vault.now).sites message.receiver }
         ensures answer { result ≡ count_answer (tallied message (slice_index_or (V.stored vault.now).entries message.receiver no_entry) (row_at self.old message.receiver).role) }

@@ -2,7 +2,7 @@
 // a struct of the three loans would put one more name into every clause, for no fact.
 ghost use Rattle.std.specs.Prelude.{◌≡◌, ◌<◌, nat_lt, ◌≤◌, if◌then◌else◌, Ok, Err, IfOk, slice_index_or};
 ghost use Rattle.sites.specs.declared.refusal.Refusal.TheVariants.{WrongPower, UnknownSite};
-ghost use Rattle.rules.specs.Calls.{terms, fitting, asked_begin, asked_vote, asked_advance, found, to_deliver_at, sound};
+ghost use Rattle.rules.specs.Calls.{terms, if_fitting, asked_begin, asked_vote, asked_advance, found, to_deliver_at, sound};
 ghost use Rattle.rules.specs.World.{world_with, row_at, no_entry};
 ghost use Rattle.net.specs.Bounds.{Near};
 
@@ -29,10 +29,19 @@ pub(super) fn record_of<V: Vault>(vault: &V, site: Site) -> Record
 
 impl Net {
     // Do policy, vault and list fit the net?
-    fn fits<P: Policy, V: Vault>(&self, policy: &P, vault: &V, list: &[Message]) -> bool
-        ensures { result ≡ fitting (terms (P.quorums policy.now) (V.stored vault.now)) (world_with self.now (V.stored vault.now) list.now) }
+    fn fit<P: Policy, V: Vault>(
+        &self,
+        policy: &P,
+        vault: &V,
+        list: &[Message],
+    ) -> Result<(), Refusal>
+        ensures { result ≡ if_fitting (terms (P.quorums policy.now) (V.stored vault.now)) (world_with self.now (V.stored vault.now) list.now) (Ok tt) }
     {
-        policy.sites() == self.sites && vault.sites() == self.sites && self.sent <= list.len()
+        if policy.sites() == self.sites && vault.sites() == self.sites && self.sent <= list.len() {
+            Ok(())
+        } else {
+            Err(Refusal::Mismatch)
+        }
     }
 
     // The row of a site.
@@ -76,9 +85,7 @@ impl Net {
         ensures is { result ≡ asked_begin (terms (P.quorums policy.now) (V.stored vault.now)) (world_with self.now (V.stored vault.now) list.now) vote }
         ensures near { IfOk result (λ t. Near (V.stored vault.now).sites t.site) }
     {
-        if !self.fits(policy, vault, list) {
-            return Err(Refusal::Mismatch);
-        }
+        self.fit(policy, vault, list)?;
         let first = self.first;
         let row = self.row_up(first)?;
         let coordinator = Coordinator {
@@ -101,9 +108,7 @@ impl Net {
         ensures is { result ≡ asked_advance (terms (P.quorums policy.now) (V.stored vault.now)) (world_with self.now (V.stored vault.now) list.now) site }
         ensures near { IfOk result (λ t. Near (V.stored vault.now).sites t.site) }
     {
-        if !self.fits(policy, vault, list) {
-            return Err(Refusal::Mismatch);
-        }
+        self.fit(policy, vault, list)?;
         let row = self.known_row(site)?;
         if !row.up {
             return Err(Refusal::WrongPower);
@@ -128,9 +133,7 @@ impl Net {
         ensures is { result ≡ found (terms (P.quorums policy.now) (V.stored vault.now)) (world_with self.now (V.stored vault.now) list.now) place }
         ensures near { IfOk result (λ m. Near (V.stored vault.now).sites m.receiver) }
     {
-        if !self.fits(policy, vault, list) {
-            return Err(Refusal::Mismatch);
-        }
+        self.fit(policy, vault, list)?;
         if place as usize >= self.sent {
             return Err(Refusal::NoMessage);
         }

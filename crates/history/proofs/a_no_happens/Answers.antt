@@ -1,5 +1,0 @@
-use Rattle.history.proofs.Examples.{refuses}
-use Rattle.history.proofs.a_no_happens.Goals as goal
-
-pub returns : goal.returns
-returns c = refuses
