@@ -26,7 +26,8 @@ impl Model for Listing {
     ghost view = { λ l. record { sites = l.sites; commit = l.commit.items; abort = l.abort.items } };
 }
 
-// A policy of listed sets: a listing whose quorums cross. It has no sites until it is fixed.
+// A policy of listed sets: a listing whose quorums cross. It has no sites until it is
+// fixed: the rules ask for a policy of 0 sites, so it is no Option.
 // Its fact is a ghost field and no model's invariant: the laws of a policy are owed for every value of a model.
 #[derive(Drop)]
 pub struct Listed {

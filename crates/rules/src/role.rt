@@ -1,7 +1,7 @@
 use crate::state::Outcome;
 use sites::SiteSet;
 
-// The first coordinator counts votes.
+// The first coordinator counts votes. This project names the parts of a role, flags among them; each is a fact by itself.
 #[derive(Clone, Copy)]
 pub struct Poll {
     // The sites whose Yes was counted.

@@ -27,7 +27,8 @@ impl Model for Ballot {
     ghost view = { λ b. record { sites = length b.votes.items; commit = b.commit; abort = b.abort; votes = b.votes.items } };
 }
 
-// A policy by votes: a ballot whose quorums cross. It has no sites until it is fixed.
+// A policy by votes: a ballot whose quorums cross. It has no sites until it is fixed:
+// the rules ask for a policy of 0 sites, so it is no Option.
 // Its facts are ghost fields and no model's invariant: the laws of a policy are owed for every value of a model.
 #[derive(Drop)]
 pub struct Votes {

@@ -1,5 +1,6 @@
 // What a call finds: all checks but those for room. Policy, vault and list are handed over one by one, as each call has them:
-// a struct of the three loans would put one more name into every clause, for no fact.
+// a struct of the three loans would put one more name into every clause, for no fact. That a site is known to the vault
+// (`Near`) stays a clause: it is about a vault of any type, and no type of the net can say it.
 ghost use Rattle.std.specs.Prelude.{◌≡◌, ◌<◌, nat_lt, ◌≤◌, if◌then◌else◌, Ok, Err, IfOk, slice_index_or};
 ghost use Rattle.sites.specs.declared.refusal.Refusal.TheVariants.{WrongPower, UnknownSite};
 ghost use Rattle.rules.specs.Calls.{terms, if_fitting, asked_begin, asked_vote, asked_advance, found, to_deliver_at, sound};
