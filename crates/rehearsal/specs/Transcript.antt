@@ -21,15 +21,12 @@ use Rattle.rehearsal.specs.Text.{answer_line, unreadable_line, site_lines}
 -- a line of the calls, over a net with policy b and n sites in the vault
 abbrev pub call_text : Ballot → ℕ → World → ℕ → Result Line Place → List ℕ
 call_text b n w k (Ok (line.Call c)) = answer_line k (answer (going_by (quorums_of b) n row_left) w c)
-call_text b n w k (Ok (line.Roster o)) = unreadable_line k 1
-call_text b n w k (Ok (line.Votes v)) = unreadable_line k 1
+call_text b n w k (Ok l) = unreadable_line k 1
 call_text b n w k (Err p) = unreadable_line k p.field
 
 abbrev pub call_world : Ballot → ℕ → World → Result Line Place → World
 call_world b n w (Ok (line.Call c)) = after (going_by (quorums_of b) n row_left) w c
-call_world b n w (Ok (line.Roster o)) = w
-call_world b n w (Ok (line.Votes v)) = w
-call_world b n w (Err p) = w
+call_world b n w x = w
 
 -- the lines of the calls, and then the sites
 abbrev pub calls_text : Ballot → ℕ → World → List Row → List ℕ
@@ -56,8 +53,7 @@ votes_text c n f k v rs =
 
 abbrev pub policy_text : Core → ℕ → ℕ → ℕ → Result Line Place → List Row → List ℕ
 policy_text c n f k (Ok (line.Votes v)) rs = votes_text c n f k v rs
-policy_text c n f k (Ok (line.Roster o)) rs = unreadable_line k 1
-policy_text c n f k (Ok (line.Call x)) rs = unreadable_line k 1
+policy_text c n f k (Ok l) rs = unreadable_line k 1
 policy_text c n f k (Err p) rs = unreadable_line k p.field
 
 abbrev pub after_roster : Core → ℕ → ℕ → List Row → List ℕ
@@ -71,8 +67,7 @@ opened_text (Err x) n f k rs = answer_line k (Err x)
 
 abbrev pub roster_text : ℕ → Result Line Place → List Row → List ℕ
 roster_text k (Ok (line.Roster o)) rs = opened_text (opening o.sites o.first) o.sites o.first k rs
-roster_text k (Ok (line.Votes v)) rs = unreadable_line k 1
-roster_text k (Ok (line.Call x)) rs = unreadable_line k 1
+roster_text k (Ok l) rs = unreadable_line k 1
 roster_text k (Err p) rs = unreadable_line k p.field
 
 abbrev pub schedule_text : List Row → List ℕ

@@ -67,15 +67,7 @@ found t w k =
 
 abbrev pub is_start : Kind → Bool
 is_start kind.Start = true
-is_start kind.Yes = false
-is_start kind.No = false
-is_start kind.Elected = false
-is_start (kind.Report t a) = false
-is_start kind.PreCommit = false
-is_start kind.PreAbort = false
-is_start kind.Ack = false
-is_start kind.Commit = false
-is_start kind.Abort = false
+is_start k = false
 
 -- vote takes a start whose receiver is up
 abbrev pub to_vote : World → Result Message Refusal → Result Message Refusal

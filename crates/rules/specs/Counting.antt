@@ -13,74 +13,44 @@ use Rattle.rules.specs.declared.role.Role.TheVariants as role
 use Rattle.rules.specs.declared.state.State.{State}
 use Rattle.rules.specs.declared.state.State.TheVariants as state
 
+-- is it one that a coordinator counts
+abbrev pub counts : Kind → Bool
+counts kind.Yes = true
+counts kind.No = true
+counts (kind.Report t a) = true
+counts kind.Ack = true
+counts k = false
+
 -- the coordinator that a message is about: who sent it, or who gets the answer
 abbrev pub coordinator : Kind → Message → ℕ
-coordinator kind.Start m = m.sender
-coordinator kind.Yes m = m.receiver
-coordinator kind.No m = m.receiver
-coordinator kind.Elected m = m.sender
-coordinator (kind.Report t a) m = m.receiver
-coordinator kind.PreCommit m = m.sender
-coordinator kind.PreAbort m = m.sender
-coordinator kind.Ack m = m.receiver
-coordinator kind.Commit m = m.sender
-coordinator kind.Abort m = m.sender
+coordinator k m = cond (counts k) m.receiver m.sender
 
 -- the receiver is at the number of the message, under its coordinator
 abbrev pub matches : Entry → Message → Bool
 matches e m = e.elected == m.number && e.lead == coordinator m.kind m
 
--- is it one that a coordinator counts
-abbrev pub counts : Kind → Bool
-counts kind.Start = false
-counts kind.Yes = true
-counts kind.No = true
-counts kind.Elected = false
-counts (kind.Report t a) = true
-counts kind.PreCommit = false
-counts kind.PreAbort = false
-counts kind.Ack = true
-counts kind.Commit = false
-counts kind.Abort = false
-
 abbrev pub is_initial : State → Bool
 is_initial state.Initial = true
-is_initial state.Waiting = false
-is_initial state.PreCommitted = false
-is_initial state.PreAborted = false
-is_initial state.Committed = false
-is_initial state.Aborted = false
+is_initial t = false
 
 abbrev pub is_pre_committed : State → Bool
-is_pre_committed state.Initial = false
-is_pre_committed state.Waiting = false
 is_pre_committed state.PreCommitted = true
-is_pre_committed state.PreAborted = false
-is_pre_committed state.Committed = false
-is_pre_committed state.Aborted = false
+is_pre_committed t = false
 
 abbrev pub is_committed : State → Bool
-is_committed state.Initial = false
-is_committed state.Waiting = false
-is_committed state.PreCommitted = false
-is_committed state.PreAborted = false
 is_committed state.Committed = true
-is_committed state.Aborted = false
+is_committed t = false
 
 abbrev pub is_aborted : State → Bool
-is_aborted state.Initial = false
-is_aborted state.Waiting = false
-is_aborted state.PreCommitted = false
-is_aborted state.PreAborted = false
-is_aborted state.Committed = false
 is_aborted state.Aborted = true
+is_aborted t = false
 
 -- a Yes of the site s
 abbrev pub with_yes : Poll → ℕ → Poll
-with_yes p s = record { yes = with_site p.yes s; no = p.no }
+with_yes p s = record p { yes = with_site p.yes s }
 
 abbrev pub with_no : Poll → Poll
-with_no p = record { yes = p.yes; no = true }
+with_no p = record p { no = true }
 
 -- are all with the greatest last attempt pre-committed, once state t at attempt a is reported too
 abbrev pub still_committable : Canvass → State → ℕ → Bool
@@ -90,8 +60,7 @@ still_committable c t a =
 
 -- the site s reports state t and last attempt a for the first time
 abbrev pub first_report : Canvass → ℕ → State → ℕ → Canvass
-first_report c s t a = record {
-  group = c.group;
+first_report c s t a = record c {
   reported = with_site c.reported s;
   aborted = c.aborted || is_aborted t;
   committed = c.committed || is_committed t;
@@ -104,40 +73,15 @@ abbrev pub with_report : Canvass → ℕ → State → ℕ → Canvass
 with_report c s t a = cond (has c.reported s) c (first_report c s t a)
 
 abbrev pub with_ack : Attempt → ℕ → Attempt
-with_ack a s = record { outcome = a.outcome; group = a.group; acked = with_site a.acked s }
+with_ack a s = record a { acked = with_site a.acked s }
 
 -- the role after a message of site s, where it is one that the role counts
 abbrev pub counted : Role → Kind → ℕ → Option Role
-counted (role.Polling p) kind.Start s = None
 counted (role.Polling p) kind.Yes s = Some (role.Polling (with_yes p s))
 counted (role.Polling p) kind.No s = Some (role.Polling (with_no p))
-counted (role.Polling p) kind.Elected s = None
-counted (role.Polling p) (kind.Report t a) s = None
-counted (role.Polling p) kind.PreCommit s = None
-counted (role.Polling p) kind.PreAbort s = None
-counted (role.Polling p) kind.Ack s = None
-counted (role.Polling p) kind.Commit s = None
-counted (role.Polling p) kind.Abort s = None
-counted (role.Canvassing c) kind.Start s = None
-counted (role.Canvassing c) kind.Yes s = None
-counted (role.Canvassing c) kind.No s = None
-counted (role.Canvassing c) kind.Elected s = None
 counted (role.Canvassing c) (kind.Report t a) s = Some (role.Canvassing (with_report c s t a))
-counted (role.Canvassing c) kind.PreCommit s = None
-counted (role.Canvassing c) kind.PreAbort s = None
-counted (role.Canvassing c) kind.Ack s = None
-counted (role.Canvassing c) kind.Commit s = None
-counted (role.Canvassing c) kind.Abort s = None
-counted (role.Attempting t) kind.Start s = None
-counted (role.Attempting t) kind.Yes s = None
-counted (role.Attempting t) kind.No s = None
-counted (role.Attempting t) kind.Elected s = None
-counted (role.Attempting t) (kind.Report u a) s = None
-counted (role.Attempting t) kind.PreCommit s = None
-counted (role.Attempting t) kind.PreAbort s = None
 counted (role.Attempting t) kind.Ack s = Some (role.Attempting (with_ack t s))
-counted (role.Attempting t) kind.Commit s = None
-counted (role.Attempting t) kind.Abort s = None
+counted r k s = None
 
 abbrev pub counted_by : Option Role → Kind → ℕ → Option Role
 counted_by None k s = None

@@ -25,12 +25,9 @@ abbrev pub starting : ℕ → Entry
 starting first = entry state.Initial 1 0 first
 
 abbrev pub decided : State → Bool
-decided state.Initial = false
-decided state.Waiting = false
-decided state.PreCommitted = false
-decided state.PreAborted = false
 decided state.Committed = true
 decided state.Aborted = true
+decided t = false
 
 -- pre-committed or pre-aborted
 abbrev pub pre_state : Outcome → State
@@ -48,15 +45,15 @@ voted_state vote.Yes = state.Waiting
 voted_state vote.No = state.Aborted
 
 abbrev pub in_state : Entry → State → Entry
-in_state e t = entry t e.elected e.attempt e.lead
+in_state e t = record e { state = t }
 
 -- in that state by an attempt, or a decision, at the last elected number
 abbrev pub attempted_in : Entry → State → Entry
-attempted_in e t = entry t e.elected e.elected e.lead
+attempted_in e t = record e { state = t; attempt = e.elected }
 
 -- under a greater number and its coordinator
 abbrev pub joined : Entry → ℕ → ℕ → Entry
-joined e n s = entry e.state n e.attempt s
+joined e n s = record e { elected = n; lead = s }
 
 abbrev pub can_join : Entry → ℕ → ℕ → Bool
 can_join e n s = nat_lt e.elected n && (nat_lt n 1000000 && nat_lt s 16)

@@ -81,16 +81,12 @@ concluded o m e r =
 
 -- deliver, a message that is not counted
 abbrev pub received : Kind → Message → Entry → Option Role → Result Step Refusal
-received kind.Start m e r = Err refusal.WrongKind
-received kind.Yes m e r = Err refusal.WrongKind
-received kind.No m e r = Err refusal.WrongKind
 received kind.Elected m e r = elected_to m e (join e m.number m.sender)
-received (kind.Report t a) m e r = Err refusal.WrongKind
 received kind.PreCommit m e r = attempted outcome.Commit m e r
 received kind.PreAbort m e r = attempted outcome.Abort m e r
-received kind.Ack m e r = Err refusal.WrongKind
 received kind.Commit m e r = concluded outcome.Commit m e r
 received kind.Abort m e r = concluded outcome.Abort m e r
+received k m e r = Err refusal.WrongKind
 
 -- deliver, a message that is counted: the role then
 abbrev pub count_of : Option Role → Result Role Refusal

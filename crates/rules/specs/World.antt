@@ -67,11 +67,11 @@ entry_at w s = slice_index_or w.entries s no_entry
 
 -- the rows with another role for the site s
 abbrev pub with_role : Core → ℕ → Option Role → List Row
-with_role c s r = slice_set c.rows.row s (record { up = (row_at c s).up; role = r })
+with_role c s r = slice_set c.rows.row s (record (row_at c s) { role = r })
 
 -- the net with another number of messages sent, and other rows
 abbrev pub with_rows : Core → ℕ → List Row → Core
-with_rows c k rows = record { sites = c.sites; first = c.first; sent = k; rows = record { row = rows } }
+with_rows c k rows = record c { sent = k; rows = record { row = rows } }
 
 -- a step was made
 abbrev pub applied : World → Step → World
@@ -118,7 +118,7 @@ count_net c s (Ok r) = with_rows c c.sent (with_role c s (Some r))
 count_net c s (Err x) = c
 
 abbrev pub count_after : World → ℕ → Result Role Refusal → World
-count_after w s x = world (count_net w.net s x) w.entries w.messages
+count_after w s x = record w { net = count_net w.net s x }
 
 abbrev pub accepted : Result (Unit {0}) Refusal → Bool
 accepted (Ok u) = true

@@ -2,7 +2,8 @@
 use Rattle.std.specs.Prelude.{ℕ, zero, suc, List, [], ◌∷◌, Some, None, Ok, Err, Option, Result}
 use Rattle.rules.specs.declared.call.Vote.{Vote}
 use Rattle.tokens.specs.declared.token.Place.{Place}
-use Rattle.tokens.specs.Rows.{Row, Seen, word, number, end, token, past}
+use Rattle.tokens.specs.Rows.{Row, Seen, word, number, token, past}
+use Rattle.tokens.specs.Seen.{place_of}
 use Rattle.schedule.specs.Words.{vote_of}
 
 -- go on with what was read
@@ -16,13 +17,11 @@ or_bad None p = Err p
 
 abbrev pub as_number : Seen → Result ℕ Place
 as_number (number w n p) = Ok n
-as_number (word w p) = Err p
-as_number (end p) = Err p
+as_number t = Err (place_of t)
 
 abbrev pub as_vote : Seen → Result Vote Place
 as_vote (word w p) = or_bad (vote_of w) p
-as_vote (number w n p) = Err p
-as_vote (end p) = Err p
+as_vote t = Err (place_of t)
 
 -- the first field of a row as a number, and as a vote
 abbrev pub number_at : Row → Result ℕ Place

@@ -3,7 +3,8 @@ use Rattle.std.specs.Prelude.{ℕ, cond, List, [], ◌∷◌, Some, None, Ok, Er
 use Rattle.arrayvec.specs.ArrayVec.{ArrayVec}
 use Rattle.rules.specs.declared.call.Call.TheVariants as call
 use Rattle.tokens.specs.declared.token.Place.{Place}
-use Rattle.tokens.specs.Rows.{Row, Seen, word, number, end, token, past}
+use Rattle.tokens.specs.Rows.{Row, Seen, word, end, token, past}
+use Rattle.tokens.specs.Seen.{place_of}
 use Rattle.schedule.specs.declared.words.Keyword.{Keyword}
 use Rattle.schedule.specs.declared.words.Keyword.TheVariants as keyword
 use Rattle.schedule.specs.declared.line.Line.{Line}
@@ -17,8 +18,7 @@ use Rattle.schedule.specs.Fields.{then, number_at, vote_at, numbers, past_all}
 
 abbrev pub as_end : Line → Seen → Result Line Place
 as_end l (end p) = Ok l
-as_end l (word w p) = Err p
-as_end l (number w n p) = Err p
+as_end l t = Err (place_of t)
 
 -- the line l, where no field is left
 abbrev pub closed_at : Line → Row → Result Line Place
@@ -58,32 +58,20 @@ votes_line n r =
 
 -- the line of each section that a word names, which stands at p: any other word is bad there
 abbrev pub roster_form : Place → Option Keyword → Row → Result Line Place
-roster_form p None r = Err p
 roster_form p (Some keyword.Roster) r = roster_line r
-roster_form p (Some keyword.Votes) r = Err p
-roster_form p (Some keyword.Begin) r = Err p
-roster_form p (Some keyword.Vote) r = Err p
-roster_form p (Some keyword.Deliver) r = Err p
-roster_form p (Some keyword.Advance) r = Err p
+roster_form p k r = Err p
 
 -- for n sites; no line gives the votes of more than sixteen
 abbrev pub policy_form : ℕ → Place → Option Keyword → Row → Result Line Place
-policy_form n p None r = Err p
-policy_form n p (Some keyword.Roster) r = Err p
 policy_form n p (Some keyword.Votes) r = cond (nat_le n 16) (votes_line n r) (Err p)
-policy_form n p (Some keyword.Begin) r = Err p
-policy_form n p (Some keyword.Vote) r = Err p
-policy_form n p (Some keyword.Deliver) r = Err p
-policy_form n p (Some keyword.Advance) r = Err p
+policy_form n p k r = Err p
 
 abbrev pub call_form : Place → Option Keyword → Row → Result Line Place
-call_form p None r = Err p
-call_form p (Some keyword.Roster) r = Err p
-call_form p (Some keyword.Votes) r = Err p
 call_form p (Some keyword.Begin) r = begin_line r
 call_form p (Some keyword.Vote) r = vote_line r
 call_form p (Some keyword.Deliver) r = deliver_line r
 call_form p (Some keyword.Advance) r = advance_line r
+call_form p k r = Err p
 
 abbrev pub form : Section → Place → Option Keyword → Row → Result Line Place
 form section.Roster p k r = roster_form p k r
@@ -92,8 +80,7 @@ form section.Calls p k r = call_form p k r
 
 abbrev pub by_first : Section → Seen → Row → Result Line Place
 by_first s (word w p) r = form s p (keyword_of w) r
-by_first s (number w k p) r = Err p
-by_first s (end p) r = Err p
+by_first s t r = Err (place_of t)
 
 -- the line that a row spells in a section
 unfoldable pub spelled : Section → Row → Result Line Place
