@@ -1,5 +1,5 @@
-ghost use Rattle.std.specs.Prelude.{◌≡◌, true};
-ghost use Rattle.listed.specs.Crossing.{all_meet};
+ghost use Rattle.std.specs.Prelude.{◌≡◌, ◌≤◌, true, length};
+ghost use Rattle.listed.specs.Crossing.{all_meet, most_sets};
 
 use arrayvec::ArrayVec;
 use sites::SiteSet;
@@ -32,5 +32,7 @@ impl Model for Listing {
 #[derive(Drop)]
 pub struct Listed {
     pub(crate) listing: Listing,
+    ghost few_commits: { length listing.commit ≤ most_sets },
+    ghost few_aborts: { length listing.abort ≤ most_sets },
     ghost crossing: { all_meet listing.commit listing.abort ≡ true },
 }

@@ -14,7 +14,7 @@ pub struct Roster {
 }
 
 // A policy's two numbers and the votes of each of the sites.
-#[derive(Drop)]
+#[derive(Clone, Drop)]
 pub struct Ballots {
     pub commit: u32,
     pub abort: u32,
@@ -30,7 +30,7 @@ pub enum Section {
 }
 
 // What a line says.
-#[derive(Drop)]
+#[derive(Clone, Drop)]
 pub enum Line {
     Roster(Roster),
     Votes(Ballots),
@@ -38,7 +38,7 @@ pub enum Line {
 }
 
 // A line with its number from 1, or in its stead the place of its first field that is bad, missing or surplus.
-#[derive(Drop)]
+#[derive(Clone, Drop)]
 pub struct Reading {
     pub number: usize,
     pub line: Result<Line, Place>,

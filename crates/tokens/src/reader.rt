@@ -1,4 +1,4 @@
-ghost use Rattle.std.specs.Prelude.{◌≡◌, drop, slice_get};
+ghost use Rattle.std.specs.Prelude.{◌≡◌, ◌<◌, ◌^◌, IfSome, drop, slice_get};
 ghost use Rattle.tokens.specs.Text.{lines};
 ghost use Rattle.tokens.specs.Rows.{rows};
 
@@ -44,6 +44,7 @@ impl<'a> Reader<'a> {
     pub fn next_line(&mut self) -> Option<Fields<'a>>
         ensures told { result ≡ slice_get self.old 0 }
         ensures passes { self.new ≡ drop 1 self.old }
+        ensures counted { IfSome result (λ f. f.place.line < 2 ^ 63) }
     {
         if self.at >= self.input.len() {
             return None;

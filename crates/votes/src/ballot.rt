@@ -1,4 +1,4 @@
-ghost use Rattle.std.specs.Prelude.{◌+◌, ◌<◌, ◌≤◌, length, sum};
+ghost use Rattle.std.specs.Prelude.{◌≡◌, ◌+◌, ◌<◌, ◌≤◌, length, sum};
 ghost use Rattle.votes.specs.Ballots.{most_voters, most_total};
 
 use arrayvec::ArrayVec;
@@ -33,6 +33,7 @@ impl Model for Ballot {
 #[derive(Drop)]
 pub struct Votes {
     pub(crate) ballot: Ballot,
+    ghost sized: { ballot.sites ≡ length ballot.votes },
     ghost few: { length ballot.votes ≤ most_voters },
     ghost light: { sum ballot.votes ≤ most_total },
     ghost crossing: { sum ballot.votes < ballot.commit + ballot.abort },

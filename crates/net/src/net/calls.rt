@@ -4,6 +4,7 @@ ghost use Rattle.sites.specs.declared.refusal.Refusal.TheVariants.{UnknownSite};
 ghost use Rattle.rules.specs.Calls.{answers, leaves, Spends};
 ghost use Rattle.rules.specs.World.{row_at, role_answer};
 ghost use Rattle.rules.specs.declared.call.Call.TheVariants.{Begin, Vote as VoteOn, Deliver, Advance};
+ghost use Rattle.net.specs.Bounds.{Bounded};
 ghost use Rattle.net.specs.Nets.{opening};
 
 use super::Net;
@@ -38,7 +39,8 @@ impl Net {
 
     // How many sites there are.
     pub fn sites(&self) -> u32
-        ensures { result ≡ self.now.sites }
+        ensures is { result ≡ self.now.sites }
+        ensures bounded { Bounded self.now.sites self.now.first self.now.sent }
     {
         self.sites
     }

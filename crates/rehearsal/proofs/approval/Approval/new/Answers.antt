@@ -6,4 +6,4 @@ use Rattle.rehearsal.proofs.approval.Approval.new.Goals as goal
 pub returns : goal.returns
 returns c =
     let m : c.in_ok-list.list.items ≡ replicate 4096 no_message = search rules in
-    new_stage_is _ c.args.opened.net _ _ _ _ _ c.args.opened.opened c.sites.ensures (search rules) c.new-vault.ensures.stored m
+    new_stage_is _ c.args.opened.net _ _ _ _ _ c.args.opened.opened c.sites.ensures.is (search rules) c.new-vault.ensures.stored m
