@@ -1,4 +1,5 @@
-//! Agreement and validity, over histories of events. Each theorem is the contract of a function that does nothing.
+//! Agreement and validity, over histories of events. Each theorem is the contract of a function that does nothing,
+//! so that the gate asks for its proof.
 #![tactic(auto)]
 
 ghost use Rattle.history.specs.Examples.{QuorumsCross, Commits, Aborts, Late, Refuses};

@@ -1,4 +1,5 @@
-// Laws of journals. Each is the contract of a function that does nothing.
+// Laws of journals. Each is the contract of a function that does nothing, so that the
+// gate asks for its proof.
 ghost use Rattle.journal.specs.Laws.{AppendOnly, NewestCounts};
 
 // A used slot is never written again.

@@ -1,4 +1,5 @@
-//! Laws over all calls. Each is the contract of a function that does nothing.
+//! Laws over all calls. Each is the contract of a function that does nothing,
+//! so that the gate asks for its proof.
 #![tactic(auto)]
 
 ghost use Rattle.laws.specs.Laws.{RefusalsChangeNothing, ListsOnlyGrow, NumbersNeverFall, EntriesStayLawful, DecidedStays, OnlyOneSite};

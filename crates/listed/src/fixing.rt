@@ -66,7 +66,7 @@ impl Listed {
     }
 
     // The policy for that many sites and those sets.
-    fn fixed(sites: u32, commit: &[SiteSet], abort: &[SiteSet]) -> Result<Listed, Refusal>
+    pub fn fixed(sites: u32, commit: &[SiteSet], abort: &[SiteSet]) -> Result<Listed, Refusal>
         ensures answer { MatchResult result (λ _. fix_answer sites commit.now abort.now ≡ Ok tt) (λ e. fix_answer sites commit.now abort.now ≡ Err e) }
         ensures listing { IfOk result (λ p. p.listing ≡ listing_of sites commit.now abort.now) }
     {

@@ -13,7 +13,7 @@ pub struct Net {
     sites: u32,
     // The first coordinator.
     first: Site,
-    // How many messages were sent.
+    // How many messages were sent. The list is the caller's, so the net has this number alone.
     sent: usize,
     rows: Rows,
 }

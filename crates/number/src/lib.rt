@@ -31,7 +31,8 @@ fn digits_on(lead: u32, rest: &[u8]) -> Option<u32>
     Some(number)
 }
 
-// Every number of at most seven digits reads back from its digits, and no other text reads as it.
+// Every number of at most seven digits reads back from its digits, and no other text reads as it. It does nothing: the gate asks
+// for the proof of its contract.
 pub fn numerals_stand()
     ensures written { ReadsWritten }
     ensures only { ReadsOnlyWritten }

@@ -22,7 +22,8 @@ pub struct Broadcast {
     pub to: SiteSet,
 }
 
-// Has a list of that length, of which some places are taken, one more for each site of the set?
+// Has a list of that length, of which some places are taken, one more for each site of the set? A question: a net asks it
+// before it writes, and `send` before it sends.
 pub fn has_room(places: usize, sent: usize, to: SiteSet) -> bool
     ensures { result ≡ room places sent to }
 {
@@ -33,7 +34,7 @@ pub fn has_room(places: usize, sent: usize, to: SiteSet) -> bool
 impl Broadcast {
     // Writes the messages from the place `sent` on, and answers the place after them.
     //
-    // The place is counted by hand: of a list that is written through an iterator, nothing would be known afterwards.
+    // The place is counted by hand: of a list that is written through a filtered or zipped iterator, nothing is known afterwards.
     #[tactic(auto, using(crate::proofs::Sizes::below_none, crate::proofs::Sizes::room_for, crate::proofs::Writing::length_written))]
     fn write_all(&self, list: &mut [Message], sent: usize) -> usize
         requires { sent + size self.now.to ≤ length list.old }
@@ -68,7 +69,8 @@ impl Broadcast {
     }
 }
 
-// What writing means: earlier places stay, then stand the new messages, and later places stay.
+// What writing means: earlier places stay, then stand the new messages, and later places stay. It does nothing: the gate asks for
+// the proof of its contract.
 #[tactic(auto, using(crate::proofs::Writing::written_as))]
 pub fn written_as()
     ensures { WrittenAs }

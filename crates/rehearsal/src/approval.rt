@@ -12,9 +12,9 @@ use rows::rows::RowVault;
 use rules::call::Call;
 use rules::message::{Kind, Message};
 use rules::record::Record;
-use rules::rows::ROWS;
 use schedule::Line;
 use sites::Refusal;
+use sites::set::SITE_PLACES;
 use std::alloc::Global;
 use tokens::Place;
 use votes::Votes;
@@ -43,7 +43,7 @@ impl<'a> Approval<'a> {
         heap: Global,
         opened: NewNet,
         policy: Votes,
-        rows: &'a mut [Record; ROWS],
+        rows: &'a mut [Record; SITE_PLACES],
     ) -> Result<Self, OutOfMemory>
         ensures { IfOk result (λ approval. stage_of approval ≡ new_stage opened policy) }
     {

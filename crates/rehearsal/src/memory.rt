@@ -6,6 +6,7 @@ use thiserror::Error;
 #[error("no memory for the transcript")]
 pub struct OutOfMemory;
 
+// By hand, since a derived one would keep the error as a field.
 impl From<AllocError> for OutOfMemory {
     fn from(_error: AllocError) -> OutOfMemory {
         OutOfMemory

@@ -12,7 +12,5 @@ pub(crate) fn policy_of(line: Result<Line, Place>) -> Result<Votes, Fault>
     let Line::Votes(ballots) = line? else {
         return Err(Fault::MISPLACED);
     };
-    let mut policy = Votes::new();
-    policy.fix(ballots.commit, ballots.abort, ballots.votes.as_slice())?;
-    Ok(policy)
+    Ok(Votes::fixed(ballots.commit, ballots.abort, &ballots.votes)?)
 }

@@ -12,8 +12,8 @@ use crate::opening::NewNet;
 use crate::policy::policy_of;
 use crate::text::write_sites;
 use rules::record::Record;
-use rules::rows::ROWS;
 use schedule::{Section, read_line};
+use sites::set::SITE_PLACES;
 use std::alloc::Global;
 use std::fmt::Write;
 use tokens::{Place, Reader};
@@ -105,7 +105,7 @@ impl Rehearsal<'_> {
         let Some(policy) = self.fix(&opened)? else {
             return Ok(());
         };
-        let mut rows = [Record::blank(); ROWS];
+        let mut rows = [Record::blank(); SITE_PLACES];
         let mut approval = Approval::new(heap, opened, policy, &mut rows)?;
         self.run_calls(&mut approval)
     }

@@ -10,7 +10,7 @@ use sites::Site;
 use std::fmt::{self, Write};
 use vault::Vault;
 
-// A site's number and record.
+// A site's number and record, to be printed; a journal's slot is of another crate, and is none.
 #[derive(Clone, Copy)]
 struct SiteRecord {
     site: Site,
@@ -43,6 +43,7 @@ impl fmt::Display for SiteRecord {
 pub(crate) fn write_sites(text: &mut String, vault: &RowVault) -> Result<(), OutOfMemory>
     ensures { OnOk result (string_bytes text.new ≡ string_bytes text.old ++ site_lines (row_stored vault.now).sites (row_stored vault.now).entries) }
 {
+    // A vault answers site by site, and has no iterator.
     for site in 0..vault.sites() {
         let own = vault.read(site).unwrap();
         writeln!(text, "{}", SiteRecord { site, own })?;

@@ -54,7 +54,8 @@ impl Attempt {
     }
 }
 
-// Counts a message of a site in the role that it is for; any other role refuses it.
+// Counts a message of a site in the role that it is for; any other role refuses it. This project asks for the role in place,
+// matched together with the kind; the whole row is lent, so that it stays up is said too.
 pub fn count(row: &mut Row, kind: Kind, sender: Site) -> Result<(), Refusal>
     ensures up { row.new.up ≡ row.old.up }
     ensures role { row.new.role ≡ role_after (count_of (counted_by row.old.role kind sender)) row.old.role }

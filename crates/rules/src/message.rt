@@ -21,7 +21,7 @@ pub enum Kind {
 }
 
 impl Kind {
-    // What goes back with a vote.
+    // What goes back with a vote. No From: a vote has a kind and a state, and is neither in another form.
     pub fn of_vote(vote: Vote) -> Kind
         ensures { result ≡ vote_kind vote }
     {

@@ -8,7 +8,7 @@ pub struct Record {
     pub state: State,
     // The last elected number.
     pub elected: u32,
-    // The number of the last attempt, 0 where there was none.
+    // The number of the last attempt, 0 where there was none: attempts count from 0 by the rules, so it is no Option.
     pub attempt: u32,
     // The coordinator of the last elected number.
     pub lead: Site,

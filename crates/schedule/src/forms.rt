@@ -4,13 +4,14 @@ ghost use Rattle.tokens.specs.Rows.{past};
 ghost use Rattle.schedule.specs.Fields.{then, number_at, vote_at, numbers, past_all};
 ghost use Rattle.schedule.specs.Lines.{closed_at, listed, roster_line, votes_line, begin_line, vote_line, deliver_line, advance_line};
 
-use crate::line::{Ballots, Line, MOST_VOTES, Roster};
+use crate::line::{Ballots, Line, Roster};
 use crate::words::vote_of;
 use arrayvec::ArrayVec;
 use rules::call::{Call, Vote};
+use sites::set::SITE_PLACES;
 use tokens::{Fields, Place, Token};
 
-// The next field as a number.
+// The next field as a number. This, `vote` and `closed` are two arms each: one function over what to take would be longer.
 fn number(fields: &mut Fields) -> Result<u32, Place>
     ensures told { result ≡ number_at fields.old }
     ensures moves { fields.new ≡ past fields.old }
@@ -80,7 +81,7 @@ pub(crate) fn advance(fields: &mut Fields) -> Result<Line, Place>
 }
 
 // The votes of so many sites.
-fn site_votes(fields: &mut Fields, sites: u32) -> Result<ArrayVec<u32, MOST_VOTES>, Place>
+fn site_votes(fields: &mut Fields, sites: u32) -> Result<ArrayVec<u32, SITE_PLACES>, Place>
     requires { sites ≤ 16 }
     ensures told { result ≡ then (numbers sites fields.old) listed }
     ensures moves { OnOk result (fields.new ≡ past_all sites fields.old) }

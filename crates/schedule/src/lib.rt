@@ -6,5 +6,5 @@ mod line;
 mod read;
 mod words;
 
-pub use line::{Ballots, Line, MOST_VOTES, Reading, Roster, Section};
+pub use line::{Ballots, Line, Reading, Roster, Section};
 pub use read::read_line;

@@ -1,10 +1,7 @@
 use arrayvec::ArrayVec;
 use rules::call::Call;
-use sites::set::MOST_SITES;
+use sites::set::SITE_PLACES;
 use tokens::Place;
-
-// The most sites whose votes a line can give.
-pub const MOST_VOTES: usize = MOST_SITES as usize;
 
 // The number of sites, and the first coordinator.
 #[derive(Clone, Copy)]
@@ -18,7 +15,7 @@ pub struct Roster {
 pub struct Ballots {
     pub commit: u32,
     pub abort: u32,
-    pub votes: ArrayVec<u32, MOST_VOTES>,
+    pub votes: ArrayVec<u32, SITE_PLACES>,
 }
 
 // Which lines may stand at a place of a schedule: the roster first, then the policy for its sites, then calls.

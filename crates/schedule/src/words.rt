@@ -31,7 +31,7 @@ impl Keyword {
     }
 }
 
-// The vote that the bytes spell, if they spell one.
+// The vote that the bytes spell, if they spell one. No TryFrom, since votes are of another crate.
 pub(crate) fn vote_of(bytes: &[u8]) -> Option<Vote>
     ensures { result ≡ vote_of bytes.now }
 {

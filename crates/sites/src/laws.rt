@@ -1,4 +1,5 @@
-// Laws of sets. Each is the contract of a function that does nothing.
+// Laws of sets. Each is the contract of a function that does nothing, so that the
+// gate asks for its proof.
 ghost use Rattle.sites.specs.Laws.{Inclusion, Meeting};
 
 // A set includes another exactly if it has each of its sites.

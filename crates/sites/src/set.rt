@@ -8,8 +8,11 @@ use std::marker::Model;
 // The most sites that a net can have.
 pub const MOST_SITES: u32 = 16;
 
+// As many places as there can be sites: what is kept for each site of any net has so many.
+pub const SITE_PLACES: usize = MOST_SITES as usize;
+
 // A set of sites, written as a number: site s counts 2^s.
-#[derive(Clone, Copy, PartialEq, Eq, Default)]
+#[derive(Clone, Copy, PartialEq, Eq, Default, Debug)]
 pub struct SiteSet {
     bits: u32,
 }
@@ -32,8 +35,16 @@ impl From<u32> for SiteSet {
     }
 }
 
+impl From<SiteSet> for u32 {
+    fn from(set: SiteSet) -> u32
+        ensures { result ≡ set }
+    {
+        set.bits
+    }
+}
+
 impl SiteSet {
-    // The set of no site.
+    // The set of no site, by a name that a constant can use; the default is the same.
     pub const EMPTY: SiteSet = SiteSet { bits: 0 };
 
     // The set of one site; none from site 16 on.

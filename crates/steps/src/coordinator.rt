@@ -1,4 +1,4 @@
-// What a coordinator does by itself.
+// What a coordinator does by itself. The clauses `site` spare callers to look into the rules for whose step it is.
 ghost use Rattle.std.specs.Prelude.{◌≡◌, IfOk};
 ghost use Rattle.rules.specs.Plans.{begun, poll_ruling, canvass_ruling, quorum_for, ruling_of, group_of, ruled_step, advanced};
 
@@ -33,7 +33,7 @@ fn poll_ruling(poll: &Poll, all: SiteSet) -> Option<Ruling>
     }
 }
 
-// What the reports allow: the first row that holds.
+// What the reports allow: the first row that holds. This project asks for one match with guards.
 fn canvass_ruling(canvass: &Canvass, commit_quorum: bool, abort_quorum: bool) -> Option<Ruling>
     ensures { result ≡ canvass_ruling commit_quorum abort_quorum canvass.now }
 {

@@ -1,4 +1,4 @@
-// What the receiver of a message does.
+// What the receiver of a message does. The clauses `site` spare callers to look into the rules for whose step it is.
 ghost use Rattle.std.specs.Prelude.{◌≡◌, if◌then◌else◌, Ok, Err, IfOk};
 ghost use Rattle.sites.specs.declared.refusal.Refusal.TheVariants.{Stale};
 ghost use Rattle.rules.specs.Counting.{matches, counts};

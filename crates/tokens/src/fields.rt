@@ -11,7 +11,8 @@ use std::marker::Model;
 #[derive(Drop)]
 pub struct Fields<'a> {
     line: &'a [u8],
-    // Where the next field begins: past the end of the line once all its fields are read.
+    // Where the next field begins: past the end of the line once all its fields are read. An index, as the reader has: a line may
+    // end in an empty field, so what is left of it would not tell.
     at: usize,
     // The place of the next field.
     place: Place,

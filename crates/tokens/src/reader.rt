@@ -6,7 +6,7 @@ use crate::fields::Fields;
 use crate::part::up_to;
 use std::marker::Model;
 
-// Reads the lent input line by line. What it is to a caller: the lines that are left, as rows.
+// Reads the lent input line by line. This project asks for the input with an index. What it is to a caller: the lines that are left, as rows.
 #[derive(Clone, Drop)]
 pub struct Reader<'a> {
     input: &'a [u8],

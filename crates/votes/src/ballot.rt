@@ -2,16 +2,13 @@ ghost use Rattle.std.specs.Prelude.{◌≡◌, ◌+◌, ◌<◌, ◌≤◌, leng
 ghost use Rattle.votes.specs.Ballots.{most_voters, most_total};
 
 use arrayvec::ArrayVec;
-use sites::set::MOST_SITES;
+use sites::set::SITE_PLACES;
 use std::marker::Model;
-
-// The most sites that can vote: all that a net can have.
-pub const MOST_VOTERS: usize = MOST_SITES as usize;
 
 // The votes of each site, and how many of them a quorum of either kind needs.
 #[derive(Drop)]
 pub struct Ballot {
-    pub(crate) votes: ArrayVec<u32, MOST_VOTERS>,
+    pub(crate) votes: ArrayVec<u32, SITE_PLACES>,
     // The votes that a set needs to commit.
     pub(crate) commit: u32,
     // The votes that a set needs to abort.

@@ -3,10 +3,11 @@ ghost use Rattle.std.specs.Prelude.{◌≡◌, ℕ, ◌<◌, ◌≤◌, false, l
 ghost use Rattle.votes.specs.Ballots.{light_votes, most_total, unfixed, commits_of, aborts_of};
 ghost use Rattle.votes.specs.Fixing.{fix_answer, fix_ballot, ballot_of};
 
-use crate::ballot::{Ballot, MOST_VOTERS, Votes};
+use crate::ballot::{Ballot, Votes};
 use arrayvec::ArrayVec;
 use sites::Refusal;
 use sites::roster::FEWEST_SITES;
+use sites::set::SITE_PLACES;
 
 // The most votes that a site can have.
 const MOST_VOTES: u32 = 15;
@@ -57,11 +58,11 @@ impl Votes {
 
     // The policy for as many sites as votes are handed over.
     #[tactic(auto, using(crate::specs::Weights::light_total))]
-    fn fixed(commit: u32, abort: u32, votes: &[u32]) -> Result<Votes, Refusal>
+    pub fn fixed(commit: u32, abort: u32, votes: &[u32]) -> Result<Votes, Refusal>
         ensures answer { MatchResult result (λ _. fix_answer commit abort votes.now ≡ Ok tt) (λ e. fix_answer commit abort votes.now ≡ Err e) }
         ensures ballot { IfOk result (λ p. p.ballot ≡ ballot_of commit abort votes.now) }
     {
-        let Ok(votes) = ArrayVec::<u32, MOST_VOTERS>::try_from(votes) else {
+        let Ok(votes) = ArrayVec::<u32, SITE_PLACES>::try_from(votes) else {
             return Err(Refusal::SiteCount);
         };
         if votes.len() < FEWEST_VOTERS {

@@ -98,7 +98,7 @@ impl<'a> JournalVault<'a> {
             .own
     }
 
-    // Would a vault for that many sites under that first coordinator have room in the memory?
+    // Stated once, in `vault::opening`: would a vault for that many sites under that first coordinator have room in the memory?
     pub fn check(slots: &[Slot], sites: u32, first: Site) -> Result<(), Refusal>
         ensures { result ≡ opening (length slots.now) sites first }
     {

@@ -1,4 +1,5 @@
-// The net as its users see it.
+// The net as its users see it. This project asks that each call names its answer, the records, the roles, the list, what is left
+// and the memory, so the clauses of the calls are not one.
 ghost use Rattle.std.specs.Prelude.{◌≡◌, if◌then◌else◌, Ok, Err, nat_lt};
 ghost use Rattle.sites.specs.declared.refusal.Refusal.TheVariants.{UnknownSite};
 ghost use Rattle.rules.specs.Calls.{answers, leaves, Spends};
@@ -12,8 +13,9 @@ use quorum::Policy;
 use rules::call::Vote;
 use rules::message::Message;
 use rules::role::Role;
-use rules::rows::{ROWS, Row, Rows};
+use rules::rows::{Row, Rows};
 use sites::roster::is_seated;
+use sites::set::SITE_PLACES;
 use sites::{Refusal, Site};
 use vault::Vault;
 
@@ -33,7 +35,9 @@ impl Net {
             sites,
             first,
             sent: 0,
-            rows: Rows { row: [row; ROWS] },
+            rows: Rows {
+                row: [row; SITE_PLACES],
+            },
         })
     }
 

@@ -2,7 +2,7 @@
 ghost use Rattle.std.specs.Prelude.{◌≡◌, ◌<◌, true, IfOk};
 ghost use Rattle.rules.specs.World.{world_with, with_rows, with_role, applied, answer_of, accepted, Left};
 ghost use Rattle.net.specs.Bounds.{Near, Within};
-ghost use Rattle.net.specs.Carried.{carried, done};
+ghost use Rattle.net.specs.Carried.{Becomes, carried, done};
 
 use super::Net;
 use post::{Broadcast, has_room};
@@ -57,11 +57,7 @@ impl Net {
     // An admitted step is made: nothing in here is refused.
     fn apply<V: Vault>(&mut self, vault: &mut V, list: &mut [Message], step: Step)
         requires { Within (world_with self.old (V.stored vault.old) list.old) (V.stored vault.old) step }
-        ensures net { self.new ≡ (applied (world_with self.old (V.stored vault.old) list.old) step).net }
-        ensures entries { (V.stored vault.new).entries ≡ (applied (world_with self.old (V.stored vault.old) list.old) step).entries }
-        ensures list { list.new ≡ (applied (world_with self.old (V.stored vault.old) list.old) step).messages }
-        ensures sites { (V.stored vault.new).sites ≡ (V.stored vault.old).sites }
-        ensures left { Left true (V.stored vault.old).left (V.stored vault.new).left }
+        ensures becomes { Becomes (applied (world_with self.old (V.stored vault.old) list.old) step) true (V.stored vault.old) (V.stored vault.new) self.new list.new }
         ensures tied { V.tied vault.old vault.new }
     {
         vault.write(step.site, step.own).unwrap();
@@ -84,11 +80,7 @@ impl Net {
     ) -> Result<(), Refusal>
         requires { IfOk asked (λ t. Near (V.stored vault.old).sites t.site) }
         ensures answer { result ≡ answer_of (carried self.old (V.stored vault.old) list.old asked) }
-        ensures net { self.new ≡ (done self.old (V.stored vault.old) list.old asked).net }
-        ensures entries { (V.stored vault.new).entries ≡ (done self.old (V.stored vault.old) list.old asked).entries }
-        ensures list { list.new ≡ (done self.old (V.stored vault.old) list.old asked).messages }
-        ensures sites { (V.stored vault.new).sites ≡ (V.stored vault.old).sites }
-        ensures left { Left (accepted result) (V.stored vault.old).left (V.stored vault.new).left }
+        ensures becomes { Becomes (done self.old (V.stored vault.old) list.old asked) (accepted result) (V.stored vault.old) (V.stored vault.new) self.new list.new }
         ensures tied { V.tied vault.old vault.new }
     {
         let step = self.admit(vault, list, asked)?;

@@ -4,7 +4,7 @@ ghost use Rattle.rules.specs.Calls.{delivery_answer, delivery_after, delivery_wr
 ghost use Rattle.rules.specs.Plans.{tallied, role_after};
 ghost use Rattle.rules.specs.World.{world_with, row_at, no_entry, with_rows, with_role, count_answer, count_net, answer_of, accepted, Left};
 ghost use Rattle.net.specs.Bounds.{Near};
-ghost use Rattle.net.specs.Carried.{carried, done, receipt};
+ghost use Rattle.net.specs.Carried.{Becomes, carried, done, receipt};
 
 use super::Net;
 use super::finding::record_of;
@@ -44,11 +44,7 @@ impl Net {
     ) -> Result<(), Refusal>
         requires { Near (V.stored vault.old).sites message.receiver }
         ensures answer { result ≡ answer_of (carried self.old (V.stored vault.old) list.old (receipt self.old (V.stored vault.old) list.old message)) }
-        ensures net { self.new ≡ (done self.old (V.stored vault.old) list.old (receipt self.old (V.stored vault.old) list.old message)).net }
-        ensures entries { (V.stored vault.new).entries ≡ (done self.old (V.stored vault.old) list.old (receipt self.old (V.stored vault.old) list.old message)).entries }
-        ensures list { list.new ≡ (done self.old (V.stored vault.old) list.old (receipt self.old (V.stored vault.old) list.old message)).messages }
-        ensures sites { (V.stored vault.new).sites ≡ (V.stored vault.old).sites }
-        ensures left { Left (accepted result) (V.stored vault.old).left (V.stored vault.new).left }
+        ensures becomes { Becomes (done self.old (V.stored vault.old) list.old (receipt self.old (V.stored vault.old) list.old message)) (accepted result) (V.stored vault.old) (V.stored vault.new) self.new list.new }
         ensures tied { V.tied vault.old vault.new }
     {
         let receipt = Receipt {
@@ -68,11 +64,7 @@ impl Net {
     ) -> Result<(), Refusal>
         requires { Near (V.stored vault.old).sites message.receiver }
         ensures answer { result ≡ delivery_answer (V.stored vault.old).left (world_with self.old (V.stored vault.old) list.old) (Ok message) }
-        ensures net { self.new ≡ (delivery_after (V.stored vault.old).left (world_with self.old (V.stored vault.old) list.old) (Ok message)).net }
-        ensures entries { (V.stored vault.new).entries ≡ (delivery_after (V.stored vault.old).left (world_with self.old (V.stored vault.old) list.old) (Ok message)).entries }
-        ensures list { list.new ≡ (delivery_after (V.stored vault.old).left (world_with self.old (V.stored vault.old) list.old) (Ok message)).messages }
-        ensures sites { (V.stored vault.new).sites ≡ (V.stored vault.old).sites }
-        ensures left { Left (delivery_writes (V.stored vault.old).left (world_with self.old (V.stored vault.old) list.old) (Ok message)) (V.stored vault.old).left (V.stored vault.new).left }
+        ensures becomes { Becomes (delivery_after (V.stored vault.old).left (world_with self.old (V.stored vault.old) list.old) (Ok message)) (delivery_writes (V.stored vault.old).left (world_with self.old (V.stored vault.old) list.old) (Ok message)) (V.stored vault.old) (V.stored vault.new) self.new list.new }
         ensures tied { V.tied vault.old vault.new }
     {
         if member::counts(message.kind) {

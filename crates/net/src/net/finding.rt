@@ -110,6 +110,7 @@ impl Net {
         ensures near { IfOk result (λ t. Near (V.stored vault.now).sites t.site) }
     {
         self.fit(policy, vault, list)?;
+        // Not `row_up`: it asks for a site below 16, which is not known from `known_row`.
         let row = self.known_row(site)?;
         if !row.up {
             return Err(Refusal::WrongPower);
@@ -150,7 +151,8 @@ impl Net {
         }
     }
 
-    // The message at a place that is no start, if its receiver is up.
+    // The message at a place that is no start, if its receiver is up. That vote takes starts alone is the next function's test;
+    // the two differ in a word, and one of them with a parameter for it would be no plainer.
     pub(super) fn find_message<P: Policy, V: Vault>(
         &self,
         policy: &P,

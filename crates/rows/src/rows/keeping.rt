@@ -49,7 +49,7 @@ impl Vault for RowVault<'_> {
 }
 
 impl<'a> RowVault<'a> {
-    // Would a vault for that many sites under that first coordinator have room in the memory?
+    // Stated once, in `vault::opening`: would a vault for that many sites under that first coordinator have room in the memory?
     pub fn check(rows: &[Record], sites: u32, first: Site) -> Result<(), Refusal>
         ensures { result ≡ opening (length rows.now) sites first }
     {
