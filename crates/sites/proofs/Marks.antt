@@ -1,80 +1,39 @@
 -- Which sites a set has after each operation, and which sets know only the first sites.
 use Rattle.std.proofs.Common.{◌≡◌, ℕ, zero, suc, ◌+◌, ◌-◌, ◌*◌, ◌/◌, ◌%◌, ◌^◌, ◌<◌, ◌≤◌, max, Bool, true, false, not, ◌&&◌, ◌||◌, eqb, ltb, sym, refl, ap, ◌∙◌, ⊎_elim, suc-mul, pow-suc, arith, pow_mono}
-use native.Mathlib.Nat.{div-eq_of_lt, div_self, zero-div}
-use lib.Bits.{bit_or, or_step, or_shr, or_block, or_zero_r, or_lt, shifted_even}
+use native.Mathlib.Nat.{div-eq_of_lt}
+use lib.Bits.{bit_or, or_step, or_block, or_zero_r, or_lt}
 use lib.Pow.{ones_split}
-use Rattle.std.proofs.lemmas.Nat.{pow-add, pow_pos, pow_below, shl-shr, shr-shr, shr_split, mod_below, shr_high}
-use Rattle.std.proofs.lemmas.Bool.{eq-eqb, ne_eqb, eqb-true, lt-ltb, le-ltb, cases_order, cases_lt, cases_Bool, cond-true, cond-false, cond_both, both_ways}
+use Rattle.std.specs.Int.{bit_at}
+use Rattle.std.proofs.lemmas.Nat.Bits.{bit_at_or, bit_at-lt, bit_at-pow_same, bit_at-pow_other, bit_at-zero, bit_at_above}
+use Rattle.std.proofs.lemmas.Nat.{pow_pos, pow_below, shr_split, mod_below, shr_high}
+use Rattle.std.proofs.lemmas.Bool.{eq-eqb, ne_eqb, eqb-true, lt-ltb, le-ltb, cases_lt, cases_eq, cases_Bool, cond-true, cond-false, cond_both, both_ways}
 use Rattle.std.proofs.lemmas.Bool.Decides.{nat_tests}
 use Rattle.sites.specs.Sets.{has, only, with_site, without_site, everyone, known}
 
--- a number below 2^n has no site from n on
-pub none_above : (n x s : ℕ) → x / 2 ^ n ≡ 0 → n ≤ s → x / 2 ^ s ≡ 0
-none_above n x s e h =
-    let apart : n + (s - n) ≡ s = omega arith in
-    sym (ap (λ m. x / 2 ^ m) apart) ∙ sym (shr-shr x n (s - n)) ∙ ap (λ m. m / 2 ^ (s - n)) e ∙ zero-div (2 ^ (s - n))
-
 pub small_none : (n x s : ℕ) → x < 2 ^ n → n ≤ s → x / 2 ^ s ≡ 0
-small_none n x s l h = none_above n x s (div-eq_of_lt l) h
+small_none n x s l h = let m : 2 ^ n ≤ 2 ^ s = pow_mono h in div-eq_of_lt (omega (arith, l, m))
 
 -- what has an even count at s has not the site s
 pub not_has : (x s : ℕ) → x / 2 ^ s % 2 ≡ 0 → has x s ≡ false
 not_has x s e = ne_eqb (x / 2 ^ s % 2) 1 (λ o. omega arith)
 
 pub has_none : (s : ℕ) → has 0 s ≡ false
-has_none s = not_has 0 s (ap (λ n. n % 2) (zero-div (2 ^ s)))
+has_none s = not_has 0 s (bit_at-zero s)
 
 either_odd : (m n : ℕ) → m < 2 → n < 2 → eqb (max m n) 1 ≡ (eqb m 1 || eqb n 1)
 either_odd m n h k = grind (arith, nat_tests)
 
-or_odd : (a b : ℕ) → bit_or a b % 2 ≡ max (a % 2) (b % 2)
-or_odd a b = omega (arith, or_step a b)
-
 -- the sites of either set
 pub has_or : (x y s : ℕ) → has (bit_or x y) s ≡ (has x s || has y s)
-has_or x y s =
-    ap (λ n. eqb (n % 2) 1) (or_shr x y s) ∙ ap (λ n. eqb n 1) (or_odd (x / 2 ^ s) (y / 2 ^ s))
-    ∙ either_odd (x / 2 ^ s % 2) (y / 2 ^ s % 2) (omega arith) (omega arith)
-
-even_below : (k d : ℕ) → 2 ^ (k + suc d) / 2 ^ k % 2 ≡ 0
-even_below k d =
-    let parts : 2 ^ (k + suc d) ≡ (1 * 2 ^ suc d) * 2 ^ k = omega (arith, pow-add 2 k (suc d)) in
-    ap (λ n. n / 2 ^ k % 2) parts ∙ ap (λ n. n % 2) (shl-shr (1 * 2 ^ suc d) k) ∙ shifted_even 1 d
+has_or x y s = ap (λ n. eqb n 1) (bit_at_or x y s) ∙ either_odd (bit_at x s) (bit_at y s) (bit_at-lt x s) (bit_at-lt y s)
 
 -- a power of two is the set of one site
 pub has_power : (s k : ℕ) → has (2 ^ s) k ≡ eqb k s
 has_power s k =
     ⊎_elim
-    (λ (e : k ≡ s).
-    let whole : 2 ^ s / 2 ^ k ≡ 1 = ap (λ n. 2 ^ s / 2 ^ n) e ∙ div_self (pow_pos s) in
-    eq-eqb (2 ^ s / 2 ^ k % 2) 1 (ap (λ n. n % 2) whole) ∙ sym (eq-eqb k s e))
-    (⊎_elim
-    (λ (l : k < s).
-    let apart : s ≡ k + suc (s - k - 1) = omega arith in
-    let even : 2 ^ s / 2 ^ k % 2 ≡ 0 = ap (λ n. 2 ^ n / 2 ^ k % 2) apart ∙ even_below k (s - k - 1) in
-    not_has (2 ^ s) k even ∙ sym (ne_eqb k s (λ e. omega arith)))
-    (λ (g : s < k).
-    not_has (2 ^ s) k (ap (λ n. n % 2) (div-eq_of_lt (pow_below s k g))) ∙ sym (ne_eqb k s (λ e. omega arith))))
-    (cases_order k s)
-
-only_is : (s : ℕ) → s < 16 → only s ≡ 2 ^ s
-only_is s h = cond-true (ltb s 16) (2 ^ s) 0 (lt-ltb s 16 h)
-
-only_less : (n s : ℕ) → s < n → only s < 2 ^ n
-only_less n s h = cond_both (ltb s 16) (2 ^ s) 0 (λ y. y < 2 ^ n) (λ _. pow_below s n h) (λ _. pow_pos n)
-
-pub has_only : (s k : ℕ) → s < 16 → has (only s) k ≡ eqb k s
-has_only s k h = ap (λ y. has y k) (only_is s h) ∙ has_power s k
-
--- the set and one site more
-pub has_with : (x s k : ℕ) → s < 16 → has (with_site x s) k ≡ (has x k || eqb k s)
-has_with x s k h = has_or x (only s) k ∙ ap (λ b. has x k || b) (has_only s k h)
-
--- a set that has the site s counts at least 2^s
-pub has_counts : (x s : ℕ) → has x s ≡ true → 2 ^ s ≤ x
-has_counts x s h =
-    let odd : x / 2 ^ s % 2 ≡ 1 = eqb-true (x / 2 ^ s % 2) 1 h in
-    ⊎_elim (λ (l : x < 2 ^ s). absurd (omega (arith, div-eq_of_lt l))) (λ (g : 2 ^ s ≤ x). g) (cases_lt x (2 ^ s))
+    (λ (e : k ≡ s). ap (λ j. has (2 ^ s) j) e ∙ eq-eqb (bit_at (2 ^ s) s) 1 (bit_at-pow_same s) ∙ sym (eq-eqb k s e))
+    (λ (o : k ≡ s → ⊥). not_has (2 ^ s) k (bit_at-pow_other s k o) ∙ sym (ne_eqb k s o))
+    (cases_eq k s)
 
 or_one : (n : ℕ) → n % 2 ≡ 0 → bit_or n 1 ≡ n + 1
 or_one n e = omega (arith, or_step n 1, or_zero_r (n / 2))
@@ -136,6 +95,46 @@ has_without x s k =
     ∙ kept_out (has x k) (eqb k s) (λ e. ap (λ j. has x j) (eqb-true k s e) ∙ f))
     (cases_Bool (has x s))
 
+known_less : (n x : ℕ) → known n x ≡ true → x < 2 ^ n
+known_less n x e =
+    let none : x / 2 ^ n ≡ 0 = eqb-true (x / 2 ^ n) 0 e in
+    let no_part : x / 2 ^ n * 2 ^ n ≡ 0 = ap (λ q. q * 2 ^ n) none ∙ omega arith in
+    omega (arith, shr_split x n, mod_below x (2 ^ n) (pow_pos n))
+
+-- a set that counts less than 2^n has sites below n alone
+pub has_below : (n x s : ℕ) → x < 2 ^ n → has x s ≡ true → s < n
+has_below n x s l t =
+    ⊎_elim
+    (λ (k : s < n). k)
+    (λ (g : n ≤ s). absurd (both_ways (has x s) (not_has x s (bit_at_above x n s l g)) t))
+    (cases_lt s n)
+
+pub known_has : (n x s : ℕ) → known n x ≡ true → has x s ≡ true → s < n
+known_has n x s e t = has_below n x s (known_less n x e) t
+
+-- a set that counts less than 2^n has known sites alone
+pub less_known : (n x : ℕ) → x < 2 ^ n → known n x ≡ true
+less_known n x l = eq-eqb (x / 2 ^ n) 0 (div-eq_of_lt l)
+
+only_is : (s : ℕ) → s < 16 → only s ≡ 2 ^ s
+only_is s h = cond-true (ltb s 16) (2 ^ s) 0 (lt-ltb s 16 h)
+
+only_less : (n s : ℕ) → s < n → only s < 2 ^ n
+only_less n s h = cond_both (ltb s 16) (2 ^ s) 0 (λ y. y < 2 ^ n) (λ _. pow_below s n h) (λ _. pow_pos n)
+
+pub has_only : (s k : ℕ) → s < 16 → has (only s) k ≡ eqb k s
+has_only s k h = ap (λ y. has y k) (only_is s h) ∙ has_power s k
+
+-- the set and one site more
+pub has_with : (x s k : ℕ) → s < 16 → has (with_site x s) k ≡ (has x k || eqb k s)
+has_with x s k h = has_or x (only s) k ∙ ap (λ b. has x k || b) (has_only s k h)
+
+-- a set that has the site s counts at least 2^s
+pub has_counts : (x s : ℕ) → has x s ≡ true → 2 ^ s ≤ x
+has_counts x s h =
+    let odd : x / 2 ^ s % 2 ≡ 1 = eqb-true (x / 2 ^ s % 2) 1 h in
+    ⊎_elim (λ (l : x < 2 ^ s). absurd (omega (arith, div-eq_of_lt l))) (λ (g : 2 ^ s ≤ x). g) (cases_lt x (2 ^ s))
+
 -- the first n sites
 pub has_ones : (n s : ℕ) → has (2 ^ n - 1) s ≡ ltb s n
 has_ones n s =
@@ -163,27 +162,6 @@ everyone_is n h =
 
 pub has_everyone : (n s : ℕ) → n ≤ 16 → has (everyone n) s ≡ ltb s n
 has_everyone n s h = ap (λ y. has y s) (everyone_is n h) ∙ has_ones n s
-
--- a set that counts less than 2^n has sites below n alone
-pub has_below : (n x s : ℕ) → x / 2 ^ n ≡ 0 → has x s ≡ true → s < n
-has_below n x s e t =
-    ⊎_elim
-    (λ (l : s < n). l)
-    (λ (g : n ≤ s). absurd (both_ways (has x s) (not_has x s (ap (λ m. m % 2) (none_above n x s e g))) t))
-    (cases_lt s n)
-
-pub known_has : (n x s : ℕ) → known n x ≡ true → has x s ≡ true → s < n
-known_has n x s e t = has_below n x s (eqb-true (x / 2 ^ n) 0 e) t
-
--- a set of known sites counts less than 2^n, and the other way round
-pub known_less : (n x : ℕ) → known n x ≡ true → x < 2 ^ n
-known_less n x e =
-    let none : x / 2 ^ n ≡ 0 = eqb-true (x / 2 ^ n) 0 e in
-    let no_part : x / 2 ^ n * 2 ^ n ≡ 0 = ap (λ q. q * 2 ^ n) none ∙ omega arith in
-    omega (arith, shr_split x n, mod_below x (2 ^ n) (pow_pos n))
-
-pub less_known : (n x : ℕ) → x < 2 ^ n → known n x ≡ true
-less_known n x l = eq-eqb (x / 2 ^ n) 0 (div-eq_of_lt l)
 
 pub known_sixteen : (n x : ℕ) → n ≤ 16 → known n x ≡ true → x < 2 ^ 16
 known_sixteen n x h e = omega (arith, known_less n x e, pow_mono h)

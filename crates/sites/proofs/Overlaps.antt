@@ -1,7 +1,9 @@
 -- Sets that include one another, and sets that share a site.
 use Rattle.std.proofs.Common.{◌≡◌, ℕ, zero, suc, ◌+◌, ◌-◌, ◌/◌, ◌%◌, ◌^◌, ◌<◌, min, Bool, true, false, ◌&&◌, eqb, ◌≢◌, sym, refl, ap, ◌∙◌, ⊎_elim, pow-suc, arith}
-use lib.Bits.{bit_and, and_step, and_shr, and_le_r}
-use Rattle.std.proofs.lemmas.Nat.{shr-shr, field_of, mod-pow-add}
+use lib.Bits.{bit_and}
+use Rattle.std.specs.Int.{bit_at}
+use Rattle.std.proofs.lemmas.Nat.Bits.{bit_at_and, bit_at-lt, bit_at-suc, same_from_bits}
+use Rattle.std.proofs.lemmas.Nat.{field_of, mod-pow-add}
 use Rattle.std.proofs.lemmas.Bool.{eq-eqb, eqb-true, eqb-false, ne_eqb, not-true, not_from_false, and_parts, and_from, both_ways, cases_Bool}
 use Rattle.std.proofs.lemmas.Bool.Decides.{nat_tests}
 use Rattle.sites.specs.Sets.{has, includes, meets, Shared}
@@ -10,14 +12,9 @@ use Rattle.sites.proofs.Marks.{has_none}
 both_odd : (m n : ℕ) → m < 2 → n < 2 → eqb (min m n) 1 ≡ (eqb m 1 && eqb n 1)
 both_odd m n h k = grind (arith, nat_tests)
 
-and_odd : (a b : ℕ) → bit_and a b % 2 ≡ min (a % 2) (b % 2)
-and_odd a b = omega (arith, and_step a b)
-
 -- the sites of both sets
 pub has_and : (x y s : ℕ) → has (bit_and x y) s ≡ (has x s && has y s)
-has_and x y s =
-    ap (λ n. eqb (n % 2) 1) (and_shr x y s) ∙ ap (λ n. eqb n 1) (and_odd (x / 2 ^ s) (y / 2 ^ s))
-    ∙ both_odd (x / 2 ^ s % 2) (y / 2 ^ s % 2) (omega arith) (omega arith)
+has_and x y s = ap (λ n. eqb n 1) (bit_at_and x y s) ∙ both_odd (bit_at x s) (bit_at y s) (bit_at-lt x s) (bit_at-lt y s)
 
 -- a set has each site of a set that it includes
 pub includes_has : (x y s : ℕ) → includes x y ≡ true → has y s ≡ true → has x s ≡ true
@@ -25,9 +22,7 @@ includes_has x y s e h =
     (and_parts (has x s) (has y s) (sym (has_and x y s) ∙ ap (λ n. has n s) (eqb-true (bit_and x y) y e) ∙ h)).0
 
 has_half : (x s : ℕ) → has (x / 2) s ≡ has x (suc s)
-has_half x s =
-    let next : 1 + s ≡ suc s = omega arith in
-    ap (λ n. eqb (n % 2) 1) (shr-shr x 1 s) ∙ ap (λ n. has x n) next
+has_half x s = ap (λ n. eqb n 1) (sym (bit_at-suc x s))
 
 -- a set that counts less than 2^k and is not empty has a site below k
 some_site : (k x : ℕ) → x < 2 ^ k → 0 < x → (s : ℕ) × ((s < k) × (has x s ≡ true))
@@ -69,20 +64,10 @@ shared_meets x y m =
     not_from_false (eqb (both % 65536) 0)
     (ne_eqb (both % 65536) 0 (λ e. both_ways (has 0 s) (has_none s) (sym (ap (λ n. has n s) e) ∙ there)))
 
-below_power : (n : ℕ) → n < 2 ^ n
-below_power zero = omega arith
-below_power (suc n) = omega (arith, pow-suc 2 n, below_power n)
-
 -- numbers that have the same sites are the same
-same_sites : (k x y : ℕ) → x < 2 ^ k → y < 2 ^ k → ((s : ℕ) → has x s ≡ has y s) → x ≡ y
-same_sites zero x y l m e = omega arith
-same_sites (suc k) x y l m e =
-    let halves =
-    same_sites k (x / 2) (y / 2) (omega (arith, pow-suc 2 k)) (omega (arith, pow-suc 2 k))
-    (λ s. has_half x s ∙ e (suc s) ∙ sym (has_half y s)) in
-    let first : eqb (x / 1 % 2) 1 ≡ eqb (y / 1 % 2) 1 = e 0 in
-    let rest : x % 2 ≡ y % 2 = grind (arith, nat_tests) in
-    omega arith
+same_sites : (x y : ℕ) → ((s : ℕ) → has x s ≡ has y s) → x ≡ y
+same_sites x y e =
+    same_from_bits x y (λ s. let h : eqb (bit_at x s) 1 ≡ eqb (bit_at y s) 1 = e s in let a = bit_at-lt x s in let b = bit_at-lt y s in grind (arith, nat_tests))
 
 both_if : (a b : Bool) → (b ≡ true → a ≡ true) → (a && b) ≡ b
 both_if a true h = ap (λ t. t && true) (h refl)
@@ -92,6 +77,4 @@ both_if false false h = refl
 -- a set that has each site of another includes it
 pub has_includes : (x y : ℕ) → ((s : ℕ) → has y s ≡ true → has x s ≡ true) → includes x y ≡ true
 has_includes x y h =
-    let most = below_power y in
-    eq-eqb (bit_and x y) y
-    (same_sites y (bit_and x y) y (omega (arith, and_le_r x y)) most (λ s. has_and x y s ∙ both_if (has x s) (has y s) (h s)))
+    eq-eqb (bit_and x y) y (same_sites (bit_and x y) y (λ s. has_and x y s ∙ both_if (has x s) (has y s) (h s)))
