@@ -9,7 +9,7 @@ pub record Setting : Type 0 where
   pub first : ℕ
   -- the set of sites whose Yes a commit needs: all sites, as long as all take part
   pub voters : ℕ
-  -- the commit quorums and the abort quorums
+  -- the commit quorums and the abort quorums; no number of sites is asked for, so this is less than a policy means
   pub commits : ℕ → Bool
   pub aborts : ℕ → Bool
 

@@ -8,7 +8,8 @@ use Rattle.rules.specs.declared.call.Call.{Call}
 use Rattle.rules.specs.declared.message.Message.{Message}
 use Rattle.laws.specs.Laws.{SameIfDecided}
 
--- k sites under the first coordinator f, nothing sent yet; what the places of the list hold does not matter
+-- k sites under the first coordinator f, nothing sent yet; what the places of the list hold does not matter (a transcript
+-- begins with a blank list, and has its own)
 abbrev pub new_world : ℕ → ℕ → List Message → World
 new_world k f ms = world (fresh k f) (replicate k (starting f)) ms
 

@@ -38,6 +38,7 @@ impl Policy for Listed {
         self.listing.sites
     }
 
+    // The interface has a function for each kind; what they share is one function above.
     fn is_commit_quorum(&self, group: SiteSet) -> bool {
         self.is_quorum(&self.listing.commit, group)
     }

@@ -11,7 +11,7 @@ pub enum Vote {
 }
 
 impl Vote {
-    // The state of a site that has voted so.
+    // The state of a site that has voted so. No From: a state is no other form of a vote.
     pub fn state(self) -> State
         ensures { result ≡ voted_state self }
     {

@@ -44,6 +44,7 @@ impl Policy for Votes {
         self.ballot.votes.len() as u32
     }
 
+    // The interface has a function for each kind; what they share is one function above.
     fn is_commit_quorum(&self, group: SiteSet) -> bool {
         self.enough(self.ballot.commit, group)
     }

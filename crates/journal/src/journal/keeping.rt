@@ -127,7 +127,7 @@ impl<'a> JournalVault<'a> {
         }
     }
 
-    // The same vault, or why there is none. `new` cannot stand on this: where it refuses, the memory stays lent. And
+    // The same vault, or why there is none; each vault has its own two lines for it. `new` cannot stand on this: where it refuses, the memory stays lent. And
     // only with `new` a proof knows what the memory holds once the vault is gone.
     pub fn open(slots: &'a mut [Slot], sites: u32, first: Site) -> Result<JournalVault<'a>, Refusal>
         ensures answer { MatchResult result (λ _. opening (length slots.old) sites first ≡ Ok tt) (λ e. opening (length slots.old) sites first ≡ Err e) }

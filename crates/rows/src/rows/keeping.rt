@@ -69,7 +69,7 @@ impl<'a> RowVault<'a> {
         RowVault { rows, sites }
     }
 
-    // The same vault, or why there is none. `new` cannot stand on this: where it refuses, the memory stays lent. And
+    // The same vault, or why there is none; each vault has its own two lines for it. `new` cannot stand on this: where it refuses, the memory stays lent. And
     // only with `new` a proof knows what the memory holds once the vault is gone.
     pub fn open(rows: &'a mut [Record], sites: u32, first: Site) -> Result<RowVault<'a>, Refusal>
         ensures answer { MatchResult result (λ _. opening (length rows.old) sites first ≡ Ok tt) (λ e. opening (length rows.old) sites first ≡ Err e) }
