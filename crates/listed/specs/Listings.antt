@@ -4,7 +4,7 @@ use Rattle.std.specs.List.{list_any}
 use Rattle.sites.specs.Sets.{includes, known}
 use Rattle.quorum.specs.Quorums.{Quorums}
 
--- the fewest sites that a listing can have, and the most: each policy bounds its own
+-- the fewest sites that a listing can have, and the most: each policy bounds its own, as another may bound them otherwise
 abbrev pub fewest_sites : ℕ
 fewest_sites = 2
 

@@ -56,7 +56,8 @@ impl Listed {
         }
     }
 
-    // Fixes the policy for that many sites and those sets, or leaves it as it was. Each policy has its own two lines for it.
+    // Fixes the policy for that many sites and those sets, or leaves it as it was. One function for both policies would take
+    // the making as a closure, with a contract longer than both.
     pub fn fix(&mut self, sites: u32, commit: &[SiteSet], abort: &[SiteSet]) -> Result<(), Refusal>
         ensures answer { result ≡ fix_answer sites commit.now abort.now }
         ensures listing { self.new.listing ≡ fix_listing sites commit.now abort.now self.old.listing }

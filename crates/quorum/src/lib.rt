@@ -6,7 +6,7 @@ ghost use Rattle.quorum.specs.Quorums.{Quorums, Crossing, Known};
 
 use sites::SiteSet;
 
-// Which sets of sites may commit and which may abort.
+// Which sets of sites may commit and which may abort: two questions, as the rules ask them.
 pub trait Policy {
     // The number of sites, the sets that may commit and those that may abort.
     ghost quorums: { Self → Quorums };

@@ -34,7 +34,7 @@ calls_text b n w [] = site_lines n w.entries
 calls_text b n w (r ∷ rs) =
     call_text b n w r.place.line (spelled section.Calls r) ++ calls_text b n (call_world b n w (spelled section.Calls r)) rs
 
--- a new net of n sites under the first coordinator f, with its vault and a blank list
+-- a new net of n sites under the first coordinator f, with its vault and a blank list (the laws take any list)
 abbrev pub new_world : Core → ℕ → ℕ → World
 new_world c n f = world c (replicate n (starting f)) (replicate 4096 no_message)
 

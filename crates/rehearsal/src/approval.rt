@@ -58,7 +58,7 @@ impl<'a> Approval<'a> {
         })
     }
 
-    // Makes a call, whichever it is.
+    // Makes a call, whichever it is: a match over the cases of a call, since a closure for each would hide which does what.
     fn make(&mut self, call: Call) -> Result<(), Refusal>
         ensures answer { result ≡ call_answer (stage_of self.old) call }
         ensures stage { stage_of self.new ≡ call_stage (stage_of self.old) call }

@@ -1,4 +1,4 @@
-// Why a line of the input is not carried out.
+// Why a line of the input is not carried out. Conversions and text are written here, since contracts read what they give.
 ghost use Rattle.std.specs.Prelude.{◌≡◌, Some};
 ghost use Rattle.rehearsal.specs.Faults.{fault_text};
 ghost use Rattle.rehearsal.specs.declared.fault.Fault.TheVariants.{Unreadable, Refused};

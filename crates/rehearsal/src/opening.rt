@@ -7,7 +7,7 @@ use schedule::{Line, Roster};
 use sites::Site;
 use tokens::Place;
 
-// A net that was just opened, and its first coordinator.
+// A net that was just opened, and its first coordinator, which a net tells nobody.
 #[derive(Drop)]
 pub(crate) struct NewNet {
     pub(crate) net: Net,

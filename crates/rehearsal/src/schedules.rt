@@ -22,10 +22,10 @@ use votes::Votes;
 // The most bytes of a schedule.
 pub const MOST_BYTES: usize = 65_536;
 
-// Answers a line that is accepted; the numbers of refusals begin at 1.
+// Answers a line that is accepted, as the format says; the numbers of refusals begin at 1.
 const ACCEPTED: u32 = 0;
 
-// Stands for the input as a whole: no line has this number, and no field.
+// Stands for the input as a whole, as the format says: no line has this number, and no field.
 const WHOLE_INPUT: Place = Place { line: 0, field: 0 };
 
 // What is left to read of a schedule, and what is told of it so far.

@@ -10,7 +10,7 @@ pub struct Roster {
     pub first: u32,
 }
 
-// A policy's two numbers and the votes of each of the sites.
+// A policy's two numbers and the votes of each of the sites, as they were read. No ballot of a policy: reading stands on none.
 #[derive(Clone, Drop)]
 pub struct Ballots {
     pub commit: u32,

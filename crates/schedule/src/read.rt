@@ -8,7 +8,8 @@ use crate::words::Keyword;
 use sites::set::MOST_SITES;
 use tokens::{Fields, Place, Reader, Token};
 
-// The line of the form that the word at `place` names, if that section has such lines.
+// The line of the form that the word at `place` names, if that section has such lines: an arm for each form, since a table of
+// functions would hide which word may stand where.
 fn by_word(word: &[u8], place: Place, fields: &mut Fields, section: Section) -> Result<Line, Place>
     ensures { result ≡ form section place (keyword_of word.now) fields.old }
 {

@@ -116,7 +116,8 @@ impl Receipt {
         })
     }
 
-    // The receiver of a message that is not counted takes its step.
+    // The receiver of a message that is not counted takes its step, by the kind: an arm for each, since closures would hide which
+    // does what.
     pub fn receive(&self) -> Result<Step, Refusal>
         ensures step { result ≡ received self.now.message.kind self.now.message self.now.own self.now.role }
         ensures site { IfOk result (λ t. t.site ≡ self.now.message.receiver) }
@@ -141,7 +142,7 @@ pub fn counts(kind: Kind) -> bool
     matches!(kind, Kind::Yes | Kind::No | Kind::Report { .. } | Kind::Ack)
 }
 
-// The receiver of a message that is counted counts it, in place.
+// The receiver of a message that is counted counts it, in place. The whole row is lent, so that it stays up is said too.
 pub fn tally(row: &mut Row, message: Message, own: Record) -> Result<(), Refusal>
     ensures up { row.new.up ≡ row.old.up }
     ensures role { row.new.role ≡ role_after (tallied message own row.old.role) row.old.role }

@@ -4,7 +4,7 @@ use Rattle.std.specs.List.{list_all}
 use Rattle.sites.specs.Sets.{has, known}
 use Rattle.quorum.specs.Quorums.{Quorums}
 
--- the fewest sites that can vote, and the most: each policy bounds its own
+-- the fewest sites that can vote, and the most: each policy bounds its own, as another may bound them otherwise
 abbrev pub fewest_voters : ℕ
 fewest_voters = 2
 

@@ -47,7 +47,8 @@ impl Votes {
         }
     }
 
-    // Fixes the policy for as many sites as votes are handed over, or leaves it as it was. Each policy has its own two lines for it.
+    // Fixes the policy for as many sites as votes are handed over, or leaves it as it was. One function for both policies would take
+    // the making as a closure, with a contract longer than both.
     pub fn fix(&mut self, commit: u32, abort: u32, votes: &[u32]) -> Result<(), Refusal>
         ensures answer { result ≡ fix_answer commit abort votes.now }
         ensures ballot { self.new.ballot ≡ fix_ballot commit abort votes.now self.old.ballot }

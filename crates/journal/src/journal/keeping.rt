@@ -98,7 +98,7 @@ impl<'a> JournalVault<'a> {
             .own
     }
 
-    // Stated once, in `vault::opening`: would a vault for that many sites under that first coordinator have room in the memory?
+    // Stated once, in `vault::opening`; each vault asks it of the places of its own memory. Would a vault for that many sites under that first coordinator have room in the memory?
     pub fn check(slots: &[Slot], sites: u32, first: Site) -> Result<(), Refusal>
         ensures { result ≡ opening (length slots.now) sites first }
     {
@@ -127,7 +127,7 @@ impl<'a> JournalVault<'a> {
         }
     }
 
-    // The same vault, or why there is none; each vault has its own two lines for it. `new` cannot stand on this: where it refuses, the memory stays lent. And
+    // The same vault, or why there is none. One function for both vaults would take the making as a closure, with a longer contract. `new` cannot stand on this: where it refuses, the memory stays lent. And
     // only with `new` a proof knows what the memory holds once the vault is gone.
     pub fn open(slots: &'a mut [Slot], sites: u32, first: Site) -> Result<JournalVault<'a>, Refusal>
         ensures answer { MatchResult result (λ _. opening (length slots.old) sites first ≡ Ok tt) (λ e. opening (length slots.old) sites first ≡ Err e) }

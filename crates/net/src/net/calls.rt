@@ -53,7 +53,7 @@ impl Net {
     pub fn is_up(&self, site: Site) -> Result<bool, Refusal>
         ensures { result ≡ (if nat_lt site self.now.sites then Ok (row_at self.now site).up else Err UnknownSite) }
     {
-        // Taken apart here: the checker has no proof for `?` on a row whose role is not used.
+        // Taken apart here: for `?` on a row whose role is not used, the checker answers with a fault of its own.
         match self.known_row(site) {
             Ok(Row { up, .. }) => Ok(up),
             Err(refusal) => Err(refusal),

@@ -16,7 +16,7 @@ use vault::Vault;
 // What one write may cost a vault.
 const WRITE_PRICE: u32 = 1;
 
-// The site of the row has another role now.
+// The site of the row has another role now. The whole row is lent, so that it stays up is said too.
 fn take_role(row: &mut Row, role: Option<Role>)
     ensures up { row.new.up ≡ row.old.up }
     ensures role { row.new.role ≡ role }

@@ -1,3 +1,4 @@
+-- what the check does not find by itself
 use Rattle.std.proofs.Common.{arith}
 use Rattle.number.proofs.Digits.{six_digits}
 use Rattle.number.proofs.digits_on.Goals as goal

@@ -49,7 +49,7 @@ impl Vault for RowVault<'_> {
 }
 
 impl<'a> RowVault<'a> {
-    // Stated once, in `vault::opening`: would a vault for that many sites under that first coordinator have room in the memory?
+    // Stated once, in `vault::opening`; each vault asks it of the places of its own memory. Would a vault for that many sites under that first coordinator have room in the memory?
     pub fn check(rows: &[Record], sites: u32, first: Site) -> Result<(), Refusal>
         ensures { result ≡ opening (length rows.now) sites first }
     {
@@ -69,7 +69,7 @@ impl<'a> RowVault<'a> {
         RowVault { rows, sites }
     }
 
-    // The same vault, or why there is none; each vault has its own two lines for it. `new` cannot stand on this: where it refuses, the memory stays lent. And
+    // The same vault, or why there is none. One function for both vaults would take the making as a closure, with a longer contract. `new` cannot stand on this: where it refuses, the memory stays lent. And
     // only with `new` a proof knows what the memory holds once the vault is gone.
     pub fn open(rows: &'a mut [Record], sites: u32, first: Site) -> Result<RowVault<'a>, Refusal>
         ensures answer { MatchResult result (λ _. opening (length rows.old) sites first ≡ Ok tt) (λ e. opening (length rows.old) sites first ≡ Err e) }

@@ -1,3 +1,4 @@
+-- what the check does not find by itself
 use Rattle.std.proofs.Common.{arith}
 use Rattle.journal.proofs.Replay.{newest_below}
 use Rattle.journal.proofs.laws.newest_counts.Goals as goal

@@ -1,3 +1,4 @@
+-- what the check does not find by itself
 use Rattle.std.proofs.Common.{◌≡◌, arith, rules}
 use Rattle.std.proofs.lemmas.List.{length_push}
 use Rattle.post.proofs.Sizes.{below_sent, below_kept, length_broadcast, room_for}

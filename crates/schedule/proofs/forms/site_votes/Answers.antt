@@ -1,3 +1,4 @@
+-- what the check does not find by itself
 use Rattle.schedule.proofs.Gathering.{gathered_more, past_more}
 use Rattle.schedule.proofs.forms.site_votes.Goals as goal
 use Rattle.std.proofs.Common.{◌∙◌, arith}

@@ -1,3 +1,4 @@
+-- what the check does not find by itself
 use Rattle.sites.proofs.Overlaps.{includes_has, has_includes}
 use Rattle.sites.proofs.laws.inclusion.Goals as goal
 

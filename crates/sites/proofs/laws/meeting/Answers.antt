@@ -1,3 +1,4 @@
+-- what the check does not find by itself
 use Rattle.sites.proofs.Overlaps.{meets_shared, shared_meets}
 use Rattle.sites.proofs.laws.meeting.Goals as goal
 

@@ -1,3 +1,4 @@
+-- what the check does not find by itself
 use Rattle.std.proofs.Common.{rules}
 use Rattle.journal.proofs.Fills.{filled_length, filled_order, filled_lawful, filled_entries}
 use Rattle.journal.proofs.journal.JournalVault.new.Goals as goal

@@ -1,3 +1,4 @@
+-- what the check does not find by itself
 use Rattle.std.proofs.Common.{take, drop, ◌-◌, sym, ap, ◌∙◌, arith}
 use Rattle.journal.specs.Slots.{last_of}
 use Rattle.journal.proofs.Replay.{own_or, own_or-unwrap, newest_at}

@@ -1,3 +1,4 @@
+-- what the check does not find by itself
 use Rattle.std.proofs.Common.{◌≡◌, replicate, rules}
 use Rattle.rules.specs.World.{no_message}
 use Rattle.rehearsal.proofs.NewStage.{new_stage_is}

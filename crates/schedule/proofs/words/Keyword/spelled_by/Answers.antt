@@ -1,3 +1,4 @@
+-- what the check does not find by itself
 use Rattle.std.proofs.Common.{rules, arith, codes, ap, sym}
 use Rattle.schedule.specs.Words.{keyword_of}
 use Rattle.schedule.proofs.Spelling.{spelled}

@@ -1,3 +1,4 @@
+-- what the check does not find by itself
 use Rattle.std.proofs.Common.{◌/◌, ◌^◌, sym, ◌∙◌, arith}
 use Rattle.std.proofs.lemmas.Bool.{le-leb, eq-eqb}
 use Rattle.sites.proofs.Marks.{small_none}

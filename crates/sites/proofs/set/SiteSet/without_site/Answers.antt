@@ -1,3 +1,4 @@
+-- what the check does not find by itself
 use Rattle.std.proofs.Common.{sym, arith}
 use Rattle.sites.proofs.Marks.{has_below}
 use Rattle.sites.proofs.set.SiteSet.without_site.Goals as goal

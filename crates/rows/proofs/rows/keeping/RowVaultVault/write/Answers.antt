@@ -1,3 +1,4 @@
+-- what the check does not find by itself
 use Rattle.std.proofs.Common.{rules}
 use Rattle.std.proofs.Math.Seq.{take-set-lt}
 use Rattle.rows.proofs.rows.keeping.RowVaultVault.write.Goals as goal
