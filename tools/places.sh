@@ -2,7 +2,7 @@
 # Counts the places in src/ that the design pass looks at, point by point. Each line: point, what is counted, how many.
 # With -v the places are shown too. Run it at the top of the repository.
 show=$1
-files() { find crates -path '*/src/*' -name '*.rt' | grep -v '^crates/trials/' | sort; }
+files() { git ls-files crates | grep -E '^crates/[^/]*/src/.*\.rt$' | grep -v '^crates/trials/' | sort; }
 count() { # point, words, pattern
     local found
     found=$(files | xargs grep -nE -e "$3" /dev/null)
