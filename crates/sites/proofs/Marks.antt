@@ -95,7 +95,7 @@ has_without x s k =
     ∙ kept_out (has x k) (eqb k s) (λ e. ap (λ j. has x j) (eqb-true k s e) ∙ f))
     (cases_Bool (has x s))
 
-known_less : (n x : ℕ) → known n x ≡ true → x < 2 ^ n
+pub known_less : (n x : ℕ) → known n x ≡ true → x < 2 ^ n
 known_less n x e =
     let none : x / 2 ^ n ≡ 0 = eqb-true (x / 2 ^ n) 0 e in
     let no_part : x / 2 ^ n * 2 ^ n ≡ 0 = ap (λ q. q * 2 ^ n) none ∙ omega arith in

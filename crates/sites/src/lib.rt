@@ -7,7 +7,10 @@ pub mod roster;
 pub mod set;
 
 pub use refusal::Refusal;
-pub use set::SiteSet;
 
 // A site, numbered from 0.
 pub type Site = u32;
+
+// A set of sites, written as a number: site s counts 2^s. A struct with a model would take from every role, row and step that
+// holds a set that it can be passed by value twice.
+pub type SiteSet = u32;
