@@ -68,6 +68,13 @@ impl Net {
         Ok(self.known_row(site)?.role)
     }
 
+    // What holds of every net, told to whoever sees no field. It does nothing.
+    fn is_bounded(&self)
+        ensures { Bounded self.now.sites self.now.first self.now.sent }
+    {
+        let _ = &self.sites;
+    }
+
     // The first coordinator starts the approval with its own vote.
     pub fn begin<P: Policy, V: Vault>(
         &mut self,
@@ -86,7 +93,9 @@ impl Net {
         ensures bounded { Bounded self.new.sites self.new.first self.new.sent }
     {
         let asked = self.find_begin(policy, vault, list, vote);
-        self.carry(vault, list, asked)
+        let answer = self.carry(vault, list, asked);
+        self.is_bounded();
+        answer
     }
 
     // The receiver of the start at a place votes.
@@ -108,7 +117,9 @@ impl Net {
         ensures bounded { Bounded self.new.sites self.new.first self.new.sent }
     {
         let asked = self.find_vote(policy, vault, list, place, vote);
-        self.carry(vault, list, asked)
+        let answer = self.carry(vault, list, asked);
+        self.is_bounded();
+        answer
     }
 
     // The message at a place, which is no start, is delivered to its receiver.
@@ -128,8 +139,11 @@ impl Net {
         ensures memory { V.tied vault.old vault.new }
         ensures bounded { Bounded self.new.sites self.new.first self.new.sent }
     {
+        self.is_bounded();
         let message = self.find_message(policy, vault, list, place)?;
-        self.act_on(vault, list, message)
+        let answer = self.act_on(vault, list, message);
+        self.is_bounded();
+        answer
     }
 
     // A coordinator takes its next step.
@@ -150,6 +164,8 @@ impl Net {
         ensures bounded { Bounded self.new.sites self.new.first self.new.sent }
     {
         let asked = self.find_advance(policy, vault, list, site);
-        self.carry(vault, list, asked)
+        let answer = self.carry(vault, list, asked);
+        self.is_bounded();
+        answer
     }
 }
