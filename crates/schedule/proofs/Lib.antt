@@ -1,2 +1,2 @@
-mod Gathering
+mod Filled
 mod Spelling

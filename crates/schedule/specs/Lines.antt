@@ -1,6 +1,5 @@
 -- The forms of lines: what a row of fields spells, or the place of its first bad, missing or surplus field.
-use Rattle.std.specs.Prelude.{ℕ, cond, List, [], ◌∷◌, Some, None, Ok, Err, Option, Result, nat_le}
-use Rattle.arrayvec.specs.ArrayVec.{ArrayVec}
+use Rattle.std.specs.Prelude.{ℕ, ◌-◌, cond, List, [], ◌∷◌, ◌++◌, replicate, Some, None, Ok, Err, Option, Result, nat_le}
 use Rattle.rules.specs.declared.call.Call.TheVariants as call
 use Rattle.tokens.specs.declared.token.Place.{Place}
 use Rattle.tokens.specs.Rows.{Row, Seen, word, end, token, past}
@@ -41,20 +40,20 @@ deliver_line r = then (number_at r) (λ m. closed_at (line.Call (call.Deliver m)
 abbrev pub advance_line : Row → Result Line Place
 advance_line r = then (number_at r) (λ s. closed_at (line.Call (call.Advance s)) (past r))
 
--- the votes of the sites in a list
-abbrev pub listed : List ℕ → Result (ArrayVec ℕ) Place
-listed vs = Ok (record { items = vs })
+-- the votes of n sites in sixteen places, of which the others hold 0
+abbrev pub padded : ℕ → List ℕ → Result (List ℕ) Place
+padded n vs = Ok (vs ++ replicate (16 - n) 0)
 
-abbrev pub ballots : ℕ → ℕ → ArrayVec ℕ → Ballots
-ballots c a vs = record { commit = c; abort = a; votes = vs }
+abbrev pub ballots : ℕ → ℕ → ℕ → List ℕ → Ballots
+ballots c a n vs = record { commit = c; abort = a; sites = n; votes = vs }
 
 -- where there are n sites
 abbrev pub votes_line : ℕ → Row → Result Line Place
 votes_line n r =
     then (number_at r) (λ c.
     then (number_at (past r)) (λ a.
-    then (then (numbers n (past (past r))) listed) (λ vs.
-    closed_at (line.Votes (ballots c a vs)) (past_all n (past (past r))))))
+    then (then (numbers n (past (past r))) (padded n)) (λ vs.
+    closed_at (line.Votes (ballots c a n vs)) (past_all n (past (past r))))))
 
 -- the line of each section that a word names, which stands at p: any other word is bad there
 abbrev pub roster_form : Place → Option Keyword → Row → Result Line Place

@@ -2,11 +2,10 @@
 ghost use Rattle.std.specs.Prelude.{◌≡◌, ◌≤◌, OnOk};
 ghost use Rattle.tokens.specs.Rows.{past};
 ghost use Rattle.schedule.specs.Fields.{then, number_at, vote_at, numbers, past_all};
-ghost use Rattle.schedule.specs.Lines.{closed_at, listed, roster_line, votes_line, begin_line, vote_line, deliver_line, advance_line};
+ghost use Rattle.schedule.specs.Lines.{closed_at, padded, roster_line, votes_line, begin_line, vote_line, deliver_line, advance_line};
 
 use crate::line::{Ballots, Line, Roster};
 use crate::words::vote_of;
-use arrayvec::ArrayVec;
 use rules::call::{Call, Vote};
 use sites::set::SITE_PLACES;
 use tokens::{Fields, Place, Token};
@@ -81,15 +80,15 @@ pub(crate) fn advance(fields: &mut Fields) -> Result<Line, Place>
 }
 
 // The votes of so many sites.
-fn site_votes(fields: &mut Fields, sites: u32) -> Result<ArrayVec<u32, SITE_PLACES>, Place>
+fn site_votes(fields: &mut Fields, sites: u32) -> Result<[u32; SITE_PLACES], Place>
     requires { sites ≤ 16 }
-    ensures told { result ≡ then (numbers sites fields.old) listed }
+    ensures told { result ≡ then (numbers sites fields.old) (padded sites) }
     ensures moves { OnOk result (fields.new ≡ past_all sites fields.old) }
 {
-    let mut votes = ArrayVec::new();
+    let mut votes = [0; SITE_PLACES];
     // A loop and no `collect`, which would not say which field is bad.
-    for _ in 0..sites {
-        votes.push(number(fields)?);
+    for site in 0..sites {
+        votes[site as usize] = number(fields)?;
     }
     Ok(votes)
 }
@@ -104,6 +103,7 @@ pub(crate) fn votes(fields: &mut Fields, sites: u32) -> Result<Line, Place>
     let ballots = Ballots {
         commit,
         abort,
+        sites,
         votes,
     };
     closed(Line::Votes(ballots), fields)

@@ -1,4 +1,3 @@
-use arrayvec::ArrayVec;
 use rules::call::Call;
 use sites::set::SITE_PLACES;
 use tokens::Place;
@@ -10,12 +9,14 @@ pub struct Roster {
     pub first: u32,
 }
 
-// A policy's two numbers and the votes of each of the sites, as they were read. No ballot of a policy: reading stands on none.
-#[derive(Clone, Drop)]
+// A policy's two numbers and the votes of each of the sites, followed by zeros, as they were read. No ballot of a policy: reading
+// stands on none.
+#[derive(Clone, Copy)]
 pub struct Ballots {
     pub commit: u32,
     pub abort: u32,
-    pub votes: ArrayVec<u32, SITE_PLACES>,
+    pub sites: u32,
+    pub votes: [u32; SITE_PLACES],
 }
 
 // Which lines may stand at a place of a schedule: the roster first, then the policy for its sites, then calls.
@@ -27,7 +28,7 @@ pub enum Section {
 }
 
 // What a line says.
-#[derive(Clone, Drop)]
+#[derive(Clone, Copy)]
 pub enum Line {
     Roster(Roster),
     Votes(Ballots),
@@ -35,7 +36,7 @@ pub enum Line {
 }
 
 // A line with its number from 1, or in its stead the place of its first field that is bad, missing or surplus.
-#[derive(Clone, Drop)]
+#[derive(Clone, Copy)]
 pub struct Reading {
     pub number: usize,
     pub line: Result<Line, Place>,
