@@ -1,4 +1,4 @@
-ghost use Rattle.std.specs.Prelude.{◌≡◌, ◌<◌, ◌≤◌, ◌++◌, [], ◌∷◌, ◌^◌, length, drop, slice_index_or, Ok, Err, IfOk, MatchResult, option_map};
+ghost use Rattle.std.specs.Prelude.{◌≡◌, ◌<◌, ◌≤◌, ◌-◌, ◌++◌, [], ◌∷◌, ◌^◌, length, take, drop, slice_index_or, Ok, Err, IfOk, MatchResult, option_map};
 ghost use Rattle.rules.specs.Entries.{plain};
 ghost use Rattle.rules.specs.World.{no_entry};
 ghost use Rattle.vault.specs.Kept.{write_answer, entries_written, Spent};
@@ -86,6 +86,14 @@ fn last_of(slots: &[Slot], site: Site) -> Option<&Slot>
     slots.iter().rev().find(|slot| slot.site == site)
 }
 
+// The used slots after the starting ones. By itself, so that what is looked at is proved where it is said.
+fn later(slots: &[Slot], sites: u32, used: usize) -> &[Slot]
+    requires { (sites ≤ used) × (used ≤ length slots.now) }
+    ensures { result.now ≡ take (used - sites) (drop sites slots.now) }
+{
+    &slots[sites as usize..used]
+}
+
 impl<'a> JournalVault<'a> {
     // The record of a known site: its newest one, which is its starting record where it has no other.
     fn newest(&self, site: Site) -> Record
@@ -94,7 +102,7 @@ impl<'a> JournalVault<'a> {
     {
         // A part of what a `&mut` behind a `&` refers to cannot be lent, so the slice is taken whole first.
         let slots = &*self.slots;
-        last_of(&slots[self.sites as usize..self.used], site)
+        last_of(later(slots, self.sites, self.used), site)
             .unwrap_or(&slots[site as usize])
             .own
     }

@@ -13,5 +13,6 @@ returns c =
     let x = c.index-slots-site.result in
     let later = last_of s (take (v.used - v.sites) (drop v.sites xs)) in
     ap (λ r. plain r.now.own) c.unwrap_or.ensures ∙ own_or-unwrap c.last_of.result _ ∙ ap (λ o. own_or o (plain x.own)) c.last_of.ensures
+    ∙ ap (λ ys. own_or (last_of s ys) (plain x.own)) c.later.ensures
     ∙ ap (λ y. own_or later (plain y.own)) c.index-slots-site.is
     ∙ sym (newest_at v.sites v.used xs s x c.requires v.ordered v.begun (omega (arith, v.held)))
