@@ -1,4 +1,5 @@
-ghost use Rattle.std.specs.Prelude.{◌≡◌};
+ghost use Rattle.std.specs.Prelude.{◌≡◌, ◌+◌, ◌<◌, ◌^◌, IfSome, slice_get};
+ghost use Rattle.tokens.specs.Rows.{AreNumbered};
 ghost use Rattle.schedule.specs.Words.{keyword_of};
 ghost use Rattle.schedule.specs.Lines.{form, spelled, first_read, after_first};
 
@@ -41,6 +42,10 @@ fn line_of(fields: &mut Fields, section: Section) -> Result<Line, Place>
 pub fn read_line(reader: &mut Reader, section: Section) -> Option<Reading>
     ensures told { result ≡ first_read section reader.old }
     ensures passes { reader.new ≡ after_first reader.old }
+    ensures counted { IfSome result (λ r. r.number < 2 ^ 63) }
+    ensures numbered { AreNumbered reader.old }
+    ensures follows { IfSome result
+        (λ r. IfSome (slice_get reader.new 0) (λ next. next.place.line ≡ r.number + 1)) }
 {
     let mut fields = reader.next_line()?;
     Some(Reading {

@@ -1,5 +1,5 @@
 -- A text is cut at its first newline, and a line at its first comma.
-use Rattle.std.proofs.Common.{◌≡◌, ℕ, suc, ◌+◌, ◌-◌, ◌<◌, ◌≤◌, Bool, true, false, eqb, leb, min, List, [], ◌∷◌, length, drop, refl, sym, ap, ◌∙◌, one-add, arith}
+use Rattle.std.proofs.Common.{◌≡◌, ℕ, suc, ◌+◌, ◌-◌, ◌<◌, ◌≤◌, Bool, true, false, eqb, leb, min, IfSome, slice_get, List, [], ◌∷◌, length, drop, refl, sym, ap, ◌∙◌, one-add, arith}
 use Rattle.std.specs.List.{before_first, position_or_len, onto_first}
 use Rattle.std.proofs.lemmas.List.{drop-drop, drop_min, length-drop, length-take-le}
 use Rattle.std.proofs.lemmas.List.Sums.{prefix_len-le-length}
@@ -30,6 +30,11 @@ first_line (b ∷ c ∷ cs) h = go (eqb b 10) refl (first_line (c ∷ cs) (omega
         let n = position_or_len newline (c ∷ cs) in
         let e : drop (1 + n + 1) (b ∷ c ∷ cs) ≡ drop (n + 1) (c ∷ cs) = ap (λ k. drop k (b ∷ c ∷ cs)) (let h : 1 + n + 1 ≡ suc (n + 1) = omega arith in h) in
         rw (q, e, one-add) (ap (onto_first b) more)
+
+-- the first of the rows of some lines has the number that they are counted from
+pub first_number : (n : ℕ) (ls : List (List ℕ)) → IfSome (slice_get (rows n ls) 0) (λ r. r.place.line ≡ n)
+first_number n [] = tt
+first_number n (l ∷ ls) = refl
 
 from_within : (at : ℕ) (bs : List ℕ) → at ≤ length bs → fields_from at bs ≡ fields (drop at bs)
 from_within at bs h = rw (le-leb at (length bs) h)

@@ -1,6 +1,6 @@
-ghost use Rattle.std.specs.Prelude.{◌≡◌, ◌<◌, ◌^◌, IfSome, drop, slice_get};
+ghost use Rattle.std.specs.Prelude.{◌≡◌, ◌+◌, ◌<◌, ◌^◌, IfSome, drop, slice_get};
 ghost use Rattle.tokens.specs.Text.{lines};
-ghost use Rattle.tokens.specs.Rows.{rows};
+ghost use Rattle.tokens.specs.Rows.{rows, AreNumbered};
 
 use crate::fields::Fields;
 use crate::part::up_to;
@@ -45,6 +45,9 @@ impl<'a> Reader<'a> {
         ensures told { result ≡ slice_get self.old 0 }
         ensures passes { self.new ≡ drop 1 self.old }
         ensures counted { IfSome result (λ f. f.place.line < 2 ^ 63) }
+        ensures numbered { AreNumbered self.old }
+        ensures follows { IfSome result
+            (λ f. IfSome (slice_get self.new 0) (λ r. r.place.line ≡ f.place.line + 1)) }
     {
         if self.at >= self.input.len() {
             return None;
