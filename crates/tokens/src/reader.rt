@@ -1,4 +1,4 @@
-ghost use Rattle.std.specs.Prelude.{◌≡◌, ◌+◌, ◌<◌, ◌^◌, IfSome, drop, slice_get};
+ghost use Rattle.std.specs.Prelude.{◌≡◌, ◌+◌, ◌<◌, ◌≤◌, ◌^◌, IfSome, drop, is_some, slice_get};
 ghost use Rattle.tokens.specs.Text.{lines};
 ghost use Rattle.tokens.specs.Rows.{rows, AreNumbered};
 
@@ -38,6 +38,22 @@ impl<'a> Reader<'a> {
             at: 0,
             line: 1,
         }
+    }
+
+    // Is a line left?
+    pub fn has_line(&self) -> bool
+        ensures { result ≡ is_some (slice_get self.now 0) }
+    {
+        self.at < self.input.len()
+    }
+
+    // The number of the line that is read next, if one is left.
+    pub fn line(&self) -> usize
+        ensures told { IfSome (slice_get self.now 0) (λ r. r.place.line ≡ result) }
+        ensures counted { result ≤ 2 ^ 63 }
+    {
+        let Reader { line, .. } = self;
+        *line
     }
 
     // The fields of the next line, which is passed; none where no line is left.
