@@ -27,9 +27,9 @@ fn by_word(word: &[u8], place: Place, fields: &mut Fields, section: Section) -> 
     }
 }
 
-// What the line of the fields says.
+// What the line says of which the fields are left, all of them or, where it is begun, those that were not taken yet.
 #[tactic(auto, unfolding(crate::specs::Lines::spelled))]
-fn line_of(fields: &mut Fields, section: Section) -> Result<Line, Place>
+pub fn read_fields(fields: &mut Fields, section: Section) -> Result<Line, Place>
     ensures { result ≡ spelled section fields.old }
 {
     match fields.next_token() {
@@ -50,6 +50,6 @@ pub fn read_line(reader: &mut Reader, section: Section) -> Option<Reading>
     let mut fields = reader.next_line()?;
     Some(Reading {
         number: fields.line(),
-        line: line_of(&mut fields, section),
+        line: read_fields(&mut fields, section),
     })
 }
