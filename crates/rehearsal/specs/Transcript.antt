@@ -1,5 +1,5 @@
 -- What a schedule prints.
-use Rattle.std.specs.Prelude.{ℕ, cond, List, [], ◌∷◌, ◌++◌, length, replicate, Ok, Err, Result, nat_lt}
+use Rattle.std.specs.Prelude.{ℕ, cond, List, [], ◌∷◌, ◌++◌, length, min, replicate, take, Ok, Err, Result, nat_lt}
 use Rattle.sites.specs.declared.refusal.Refusal.{Refusal}
 use Rattle.rules.specs.Calls.{going_by, answer, after}
 use Rattle.rules.specs.Entries.{starting}
@@ -45,7 +45,7 @@ fixed_text (Err x) b c n f k rs = answer_line k (Err x)
 
 -- the votes of the sites that a line gives
 abbrev pub votes_of : Ballots → List ℕ
-votes_of v = v.votes.items
+votes_of v = take (min v.sites 16) v.votes
 
 abbrev pub votes_text : Core → ℕ → ℕ → ℕ → Ballots → List Row → List ℕ
 votes_text c n f k v rs =

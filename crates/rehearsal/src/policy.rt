@@ -3,6 +3,7 @@ ghost use Rattle.rehearsal.specs.Steps.{Fixes};
 
 use crate::fault::Fault;
 use schedule::Line;
+use sites::set::MOST_SITES;
 use tokens::Place;
 use votes::Votes;
 
@@ -12,5 +13,6 @@ pub(crate) fn policy_of(line: Result<Line, Place>) -> Result<Votes, Fault>
     let Line::Votes(ballots) = line? else {
         return Err(Fault::MISPLACED);
     };
-    Ok(Votes::fixed(ballots.commit, ballots.abort, &ballots.votes)?)
+    let count = ballots.sites.min(MOST_SITES) as usize;
+    Ok(Votes::fixed(ballots.commit, ballots.abort, &ballots.votes[..count])?)
 }
