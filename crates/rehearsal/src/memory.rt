@@ -1,4 +1,5 @@
 use std::alloc::AllocError;
+use std::fmt;
 use thiserror::Error;
 
 // There was no memory for the text or the message list.
@@ -9,6 +10,12 @@ pub struct OutOfMemory;
 // By hand, since a derived one would keep the error as a field.
 impl From<AllocError> for OutOfMemory {
     fn from(_error: AllocError) -> OutOfMemory {
+        OutOfMemory
+    }
+}
+
+impl From<fmt::Error> for OutOfMemory {
+    fn from(_error: fmt::Error) -> OutOfMemory {
         OutOfMemory
     }
 }
