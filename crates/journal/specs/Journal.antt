@@ -4,13 +4,13 @@ use Rattle.sites.specs.declared.refusal.Refusal.{Refusal}
 use Rattle.rules.specs.Entries.{Entry, starting}
 use Rattle.rules.specs.World.{Stored}
 use Rattle.vault.specs.Opening.{opening, opened_sites, opened_entries}
-use Rattle.journal.specs.Slots.{slot, slots_of, counting_slots, newest}
+use Rattle.journal.specs.Slots.{Written, slot, plain_slots, slots_of, counting_slots, newest}
 use Rattle.journal.specs.declared.journal.JournalVault.{JournalVault}
 use Rattle.journal.specs.declared.slot.Slot.{Slot}
 
 -- the used slots, the oldest first
-abbrev pub used_slots : JournalVault → List Slot
-used_slots v = take v.used v.slots.now
+abbrev pub used_slots : JournalVault → List Written
+used_slots v = plain_slots (take v.used v.slots.now)
 
 -- the newest record of each site, and the slots that are not used
 abbrev pub journal_stored : JournalVault → Stored
@@ -21,9 +21,9 @@ journal_stored v = record {
 }
 
 -- a write that is not refused takes the next slot
-abbrev pub slots_written : Result (Unit {0}) Refusal → ℕ → Entry → List Slot → List Slot
-slots_written (Ok u) s e xs = xs ++ (slot s e ∷ [])
-slots_written (Err x) s e xs = xs
+abbrev pub slots_written : Result (Unit {0}) Refusal → ℕ → Entry → List Written → List Written
+slots_written (Ok u) s e ws = ws ++ (slot s e ∷ [])
+slots_written (Err x) s e ws = ws
 
 -- the same memory, appended to: the slots used before are as they were, and so are those that are not used yet
 pub record Appended (v v' : JournalVault) : Type 0 where
@@ -47,9 +47,9 @@ journal_opened xs n f = record {
 }
 
 -- its used slots: the starting record of each site, in the order of the sites
-abbrev pub used_opened : List Slot → ℕ → ℕ → List Slot
+abbrev pub used_opened : List Slot → ℕ → ℕ → List Written
 used_opened xs n f = slots_of (new_sites xs n f) (starting f)
 
 -- and its memory: these in the first slots, and the others as they were
-abbrev pub slots_opened : List Slot → ℕ → ℕ → List Slot
-slots_opened xs n f = used_opened xs n f ++ drop (new_sites xs n f) xs
+abbrev pub slots_opened : List Slot → ℕ → ℕ → List Written
+slots_opened xs n f = used_opened xs n f ++ drop (new_sites xs n f) (plain_slots xs)

@@ -1,5 +1,6 @@
 -- What every journal vault keeps to.
 use Rattle.std.specs.Prelude.{◌≡◌, ℕ, ◌<◌, ◌≤◌, ◌≢◌, slice_index_or}
+use Rattle.rules.specs.Entries.{plain}
 use Rattle.rules.specs.World.{no_entry}
 use Rattle.journal.specs.Journal.{journal_stored, Appended}
 use Rattle.journal.specs.declared.journal.JournalVault.{JournalVault}
@@ -29,4 +30,4 @@ pub record Newest (v : JournalVault) (s k : ℕ) (d : Slot) : Type 0 where
 abbrev pub NewestCounts : Type 0
 NewestCounts =
     (v : JournalVault) (s : ℕ) (d : Slot) → s < v.sites →
-    (k : ℕ) × (Newest v s k d × (slice_index_or (journal_stored v).entries s no_entry ≡ (slot_at v k d).own))
+    (k : ℕ) × (Newest v s k d × (slice_index_or (journal_stored v).entries s no_entry ≡ plain (slot_at v k d).own))

@@ -1,6 +1,5 @@
-ghost use Rattle.std.specs.Prelude.{◌≤◌, length, take};
-ghost use Rattle.std.specs.List.{All};
-ghost use Rattle.journal.specs.Slots.{counting_slots, InOrder, LawfulSlot};
+ghost use Rattle.std.specs.Prelude.{◌≤◌, length};
+ghost use Rattle.journal.specs.Slots.{counting_slots, InOrder};
 
 mod keeping;
 
@@ -17,6 +16,4 @@ pub struct JournalVault<'a> {
     ghost held: { used ≤ counting_slots (length slots.now) },
     ghost begun: { sites ≤ used },
     ghost ordered: { InOrder sites slots.now },
-    // The caller's memory may hold anything; the used slots hold records that code wrote.
-    ghost written: { All LawfulSlot (take used slots.now) },
 }

@@ -8,7 +8,7 @@ use Rattle.std.proofs.lemmas.Bool.{true≢false, cond_both, ne_eqb, eq-eqb}
 use Rattle.std.specs.List.{AllByRecursion as All}
 use Rattle.sites.proofs.Marks.{has_without, has_power, has_none}
 use Rattle.sites.specs.Sets.{has, only, without_site, size}
-use Rattle.rules.specs.declared.step.Step.{Step}
+use Rattle.rules.specs.Plans.{Plan}
 use Rattle.rules.specs.Posting.{message, broadcast_below, broadcast, written}
 use Rattle.rules.specs.World.{World, applied, no_message}
 use Rattle.rules.specs.declared.message.Kind.{Kind}
@@ -67,7 +67,7 @@ written_apart xs i (m ∷ new) fits h a k lt =
     a.1 k (omega arith)
 
 -- a step whose site is not among those that it sends to keeps it so
-pub applied_apart : (w : World) (p : Step) → Roomy w p → has p.to p.site ≡ false → AllApart w → AllApart (applied w p)
+pub applied_apart : (w : World) (p : Plan) → Roomy w p → has p.to p.site ≡ false → AllApart w → AllApart (applied w p)
 applied_apart w p room h all k lt =
     let new = broadcast p.kind p.own.elected p.site p.to in
     let len : length new ≡ size p.to = length_broadcast p.kind p.own.elected p.site p.to in

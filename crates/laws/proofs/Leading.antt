@@ -7,7 +7,7 @@ use Rattle.sites.specs.declared.refusal.Refusal.TheVariants as refusal
 use Rattle.quorum.specs.Quorums.{Quorums}
 use Rattle.rules.specs.Counting.{matches, is_initial, coordinator, counted_by, counted}
 use Rattle.rules.specs.Entries.{Entry, decided, joined, can_join, join, pre_state}
-use Rattle.rules.specs.Plans.{begin_step, begun, voted, elected_to, attempted, concluded, received, count_of, tallied, ruling_of, group_of, ruled, advanced}
+use Rattle.rules.specs.Plans.{Plan, begin_plan, begun, voted, elected_to, attempted, concluded, received, count_of, tallied, ruling_of, group_of, ruled, advanced}
 use Rattle.rules.specs.declared.call.Vote.{Vote}
 use Rattle.rules.specs.declared.call.Vote.TheVariants as vote
 use Rattle.rules.specs.declared.message.Kind.{Kind}
@@ -19,7 +19,6 @@ use Rattle.rules.specs.declared.role.Ruling.{Ruling}
 use Rattle.rules.specs.declared.role.Ruling.TheVariants as ruling
 use Rattle.rules.specs.declared.state.Outcome.{Outcome}
 use Rattle.rules.specs.declared.state.Outcome.TheVariants as outcome
-use Rattle.rules.specs.declared.step.Step.{Step}
 use Rattle.laws.specs.Laws.{RoleAgrees}
 use Rattle.laws.proofs.Apart.{Apart, without_itself, only_other}
 use Rattle.laws.proofs.Held.{Held, held_unless}
@@ -41,7 +40,7 @@ pub record Under (f : ℕ) (e : Entry) : Type 0 where
   pub led : e.elected ≤ 1 → e.lead ≡ f
 
 -- the step is for the site s with the record e, keeps all this, and sends nothing to s
-pub record KeptBy (f s : ℕ) (e : Entry) (p : Step) : Type 0 where
+pub record KeptBy (f s : ℕ) (e : Entry) (p : Plan) : Type 0 where
   pub own_site : p.site ≡ s
   pub leads : Leads s p.own p.role
   pub under : Under f e → Under f p.own
@@ -58,7 +57,7 @@ initial_roleless s e e' r i = roleless s e e' r (λ l. true≢false (sym (not-fa
 under_same : (f : ℕ) (e e' : Entry) → e'.elected ≡ e.elected → e'.lead ≡ e.lead → Under f e → Under f e'
 under_same f e e' n a u = record { numbered = rw n u.numbered; led = λ h. a ∙ u.led (rw n at h) }
 
-begin_keeps : (v : Vote) (s all : ℕ) (e : Entry) (r : Option Role) → e.lead ≡ s → not (is_initial e.state) ≡ false → Leads s e r → KeptBy s s e (begin_step v s all e r)
+begin_keeps : (v : Vote) (s all : ℕ) (e : Entry) (r : Option Role) → e.lead ≡ s → not (is_initial e.state) ≡ false → Leads s e r → KeptBy s s e (begin_plan v s all e r)
 begin_keeps vote.Yes s all e r h i l = record {
   own_site = refl;
   leads = record { itself = h; undecided = refl; has_voted = refl };

@@ -2,9 +2,9 @@
 use Rattle.std.proofs.Common.{◌≡◌, ℕ, ◌+◌, ◌≤◌, Bool, true, false, cond, List, [], ◌∷◌, take, set, Ok, Err, Result, refl, ◌∙◌, le_refl, arith}
 use Rattle.std.proofs.lemmas.List.{take-set-le}
 use Rattle.sites.specs.declared.refusal.Refusal.{Refusal}
+use Rattle.rules.specs.Plans.{Plan}
 use Rattle.rules.specs.Calls.{asked_begin, asked_vote, asked_advance, to_deliver_at, delivery_after, tally_of, receipt_of}
 use Rattle.rules.specs.Counting.{counts}
-use Rattle.rules.specs.declared.step.Step.{Step}
 use Rattle.rules.specs.Posting.{broadcast, written}
 use Rattle.rules.specs.World.{World, applied, admitted, after_of, count_after}
 use Rattle.rules.specs.declared.call.Call.TheVariants as call
@@ -21,7 +21,7 @@ take_written n xs i (m ∷ new) h = take_written n (set xs i m) (i + 1) new (ome
 same_grown : (w : World) → Grown w w
 same_grown w = record { more = le_refl w.net.sent; kept = refl; sized = refl; within = λ h. h }
 
-applied_grown : (w : World) (p : Step) → Roomy w p → Grown w (applied w p)
+applied_grown : (w : World) (p : Plan) → Roomy w p → Grown w (applied w p)
 applied_grown w p h =
     let new = broadcast p.kind p.own.elected p.site p.to in
     let len = length_written w.messages w.net.sent new in
@@ -32,11 +32,11 @@ applied_grown w p h =
       within = λ k. rw len h;
     }
 
-plan_grown : (w : World) (x : Result Step Refusal) → Held (Roomy w) x → Grown w (after_of w x)
+plan_grown : (w : World) (x : Result Plan Refusal) → Held (Roomy w) x → Grown w (after_of w x)
 plan_grown w (Ok p) h = applied_grown w p h
 plan_grown w (Err r) h = same_grown w
 
-admitted_grown : (l : ℕ) (w : World) (x : Result Step Refusal) → Grown w (after_of w (admitted l w x))
+admitted_grown : (l : ℕ) (w : World) (x : Result Plan Refusal) → Grown w (after_of w (admitted l w x))
 admitted_grown l w x = plan_grown w (admitted l w x) (admitted_roomy l w x)
 
 count_grown : (w : World) (s : ℕ) (x : Result Role Refusal) → Grown w (count_after w s x)

@@ -4,8 +4,8 @@ use native.Mathlib.Decide.{ℕ_discrete}
 use Rattle.std.proofs.lemmas.List.{get_or-set_same, get_or-set_other, set_past}
 use Rattle.std.proofs.lemmas.Bool.{cases_lt}
 use Rattle.sites.specs.declared.refusal.Refusal.{Refusal}
+use Rattle.rules.specs.Plans.{Plan}
 use Rattle.rules.specs.Entries.{Entry, Lawful}
-use Rattle.rules.specs.declared.step.Step.{Step}
 use Rattle.rules.specs.World.{World, no_entry, entry_at, applied, admitted, after_of}
 use Rattle.laws.specs.Laws.{Risen, SameIfDecided}
 use Rattle.laws.proofs.Held.{Held, held_admitted}
@@ -42,7 +42,7 @@ unmoved G s w w' h = record {
   decides = λ g t d. ap (λ (es : List Entry). (get_or es t no_entry).state) h;
 }
 
-applied_moved : (G : Type 0) (w : World) (p : Step) → Fits G p.site (entry_at w p.site) p → Moved G p.site w (applied w p)
+applied_moved : (G : Type 0) (w : World) (p : Plan) → Fits G p.site (entry_at w p.site) p → Moved G p.site w (applied w p)
 applied_moved G w p f = record {
   others = λ t d. get_or-set_other w.entries p.site t p.own no_entry d;
   rises = at_every (λ e e'. Lawful e → Risen e e') w.entries p.site p.own (λ e l. risen_same e) f.rises;
@@ -50,11 +50,11 @@ applied_moved G w p f = record {
   decides = λ g. at_every SameIfDecided w.entries p.site p.own (λ e d. refl) (f.decides g);
 }
 
-plan_moved : (G : Type 0) (s : ℕ) (w : World) (x : Result Step Refusal) → Held (Fits G s (entry_at w s)) x → Moved G s w (after_of w x)
+plan_moved : (G : Type 0) (s : ℕ) (w : World) (x : Result Plan Refusal) → Held (Fits G s (entry_at w s)) x → Moved G s w (after_of w x)
 plan_moved G s w (Ok p) h =
     subst (λ t. Fits G t (entry_at w t) p → Moved G t w (applied w p)) h.own_site (applied_moved G w p) h
 plan_moved G s w (Err r) h = unmoved G s w w refl
 
 -- a step that fits moves the records so, when it is admitted
-pub admitted_moved : (G : Type 0) (s l : ℕ) (w : World) (x : Result Step Refusal) → Held (Fits G s (entry_at w s)) x → Moved G s w (after_of w (admitted l w x))
+pub admitted_moved : (G : Type 0) (s l : ℕ) (w : World) (x : Result Plan Refusal) → Held (Fits G s (entry_at w s)) x → Moved G s w (after_of w (admitted l w x))
 admitted_moved G s l w x h = plan_moved G s w (admitted l w x) (held_admitted (Fits G s (entry_at w s)) l w x h)

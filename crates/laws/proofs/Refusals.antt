@@ -1,16 +1,16 @@
 -- A refused call changes nothing.
 use Rattle.std.proofs.Common.{◌≡◌, ℕ, Bool, true, false, cond, Ok, Err, Result, refl, arith}
 use Rattle.sites.specs.declared.refusal.Refusal.{Refusal}
+use Rattle.rules.specs.Plans.{Plan}
 use Rattle.rules.specs.Calls.{asked_begin, asked_vote, asked_advance, to_deliver_at, delivery_answer, delivery_after, tally_of, receipt_of}
 use Rattle.rules.specs.Counting.{counts}
-use Rattle.rules.specs.declared.step.Step.{Step}
 use Rattle.rules.specs.World.{World, admitted, answer_of, after_of, count_answer, count_after}
 use Rattle.rules.specs.declared.call.Call.TheVariants as call
 use Rattle.rules.specs.declared.message.Message.{Message}
 use Rattle.rules.specs.declared.role.Role.{Role}
 use Rattle.laws.specs.Laws.{SameIfRefused, RefusalsChangeNothing}
 
-plan_refused : (w : World) (x : Result Step Refusal) → SameIfRefused (answer_of x) w (after_of w x)
+plan_refused : (w : World) (x : Result Plan Refusal) → SameIfRefused (answer_of x) w (after_of w x)
 plan_refused w (Ok p) r h = let z : ◌≡◌ {A = ℕ} 0 1 = cc in absurd (omega arith)
 plan_refused w (Err q) r h = refl
 

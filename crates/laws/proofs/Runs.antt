@@ -6,10 +6,10 @@ use Rattle.std.proofs.lemmas.Bool.{and_parts, ltb-true, cases_lt}
 use Rattle.sites.specs.declared.refusal.Refusal.{Refusal}
 use Rattle.sites.specs.declared.refusal.Refusal.TheVariants as refusal
 use Rattle.quorum.specs.Quorums.{Quorums}
+use Rattle.rules.specs.Plans.{Plan}
 use Rattle.rules.specs.Calls.{Terms, going_by, after, fitting, sound, is_start, found, to_vote, to_deliver, vote_of, asked_begin, asked_advance, everyone_of, to_deliver_at, delivery_after, tally_of, receipt_of}
 use Rattle.rules.specs.Counting.{counts}
 use Rattle.rules.specs.Entries.{Entry, starting}
-use Rattle.rules.specs.declared.step.Step.{Step}
 use Rattle.rules.specs.World.{fresh_row, World, no_entry, no_row, no_message, row_at, entry_at, applied, admitted, after_of, count_after}
 use Rattle.rules.specs.declared.call.Call.{Call}
 use Rattle.rules.specs.declared.call.Call.TheVariants as call
@@ -64,7 +64,7 @@ row_leads es es' rs s up r same l all t =
       | no d ↦ rw (get_or-set_other rs s t (record { up = up; role = r }) no_row d) (rw (same t d) (all t))
     ]
 
-applied_steady : (w : World) (p : Step) → Steady w → p.site < w.net.sites → Roomy w p → KeptBy w.net.first p.site (entry_at w p.site) p → Steady (applied w p)
+applied_steady : (w : World) (p : Plan) → Steady w → p.site < w.net.sites → Roomy w p → KeptBy w.net.first p.site (entry_at w p.site) p → Steady (applied w p)
 applied_steady w p st lt room k =
     let f = w.net.first in
     let inside : p.site < length w.entries = rw st.known lt in
@@ -81,19 +81,19 @@ applied_steady w p st lt room k =
     }
 
 -- the step keeps all this, and its site is known
-abbrev Kept : World → ℕ → Step → Type 0
+abbrev Kept : World → ℕ → Plan → Type 0
 Kept w s p = (s < w.net.sites) × KeptBy w.net.first s (entry_at w s) p
 
-kept_known : (w : World) (s : ℕ) (x : Result Step Refusal) → s < w.net.sites → Held (KeptBy w.net.first s (entry_at w s)) x → Held (Kept w s) x
+kept_known : (w : World) (s : ℕ) (x : Result Plan Refusal) → s < w.net.sites → Held (KeptBy w.net.first s (entry_at w s)) x → Held (Kept w s) x
 kept_known w s (Ok p) lt k = (lt, k)
 kept_known w s (Err r) lt k = tt
 
-plan_steady : (s : ℕ) (w : World) (x : Result Step Refusal) → Steady w → Held (Roomy w) x → Held (Kept w s) x → Steady (after_of w x)
+plan_steady : (s : ℕ) (w : World) (x : Result Plan Refusal) → Steady w → Held (Roomy w) x → Held (Kept w s) x → Steady (after_of w x)
 plan_steady s w (Ok p) st room k =
     subst (λ t. Kept w t p → Steady (applied w p)) k.1.own_site (λ j. applied_steady w p st j.0 room j.1) k
 plan_steady s w (Err r) st room k = st
 
-admitted_steady : (s l : ℕ) (w : World) (x : Result Step Refusal) → Steady w → Held (Kept w s) x → Steady (after_of w (admitted l w x))
+admitted_steady : (s l : ℕ) (w : World) (x : Result Plan Refusal) → Steady w → Held (Kept w s) x → Steady (after_of w (admitted l w x))
 admitted_steady s l w x st k =
     plan_steady s w (admitted l w x) st (admitted_roomy l w x) (held_admitted (Kept w s) l w x k)
 

@@ -5,7 +5,7 @@ use Rattle.sites.specs.declared.refusal.Refusal.TheVariants as refusal
 use Rattle.quorum.specs.Quorums.{Quorums}
 use Rattle.rules.specs.Counting.{matches, is_initial}
 use Rattle.rules.specs.Entries.{Entry, Lawful, decided, in_state, attempted_in, joined, can_join, join, pre_state, final_state, voted_state}
-use Rattle.rules.specs.Plans.{step, begin_step, begun, voted, elected_to, attempted, concluded, received, poll_ruling, attempt_ruling, ruling_of, quorum_for, group_of, ruled, advanced}
+use Rattle.rules.specs.Plans.{Plan, plan, begin_plan, begun, voted, elected_to, attempted, concluded, received, poll_ruling, attempt_ruling, ruling_of, quorum_for, group_of, ruled, advanced}
 use Rattle.rules.specs.declared.call.Vote.{Vote}
 use Rattle.rules.specs.declared.call.Vote.TheVariants as vote
 use Rattle.rules.specs.declared.message.Kind.{Kind}
@@ -19,12 +19,11 @@ use Rattle.rules.specs.declared.state.Outcome.{Outcome}
 use Rattle.rules.specs.declared.state.Outcome.TheVariants as outcome
 use Rattle.rules.specs.declared.state.State.{State}
 use Rattle.rules.specs.declared.state.State.TheVariants as state
-use Rattle.rules.specs.declared.step.Step.{Step}
 use Rattle.laws.specs.Laws.{Risen, SameIfDecided, FitsRole, RoleAgrees}
 use Rattle.laws.proofs.Held.{Held, held_unless}
 
 -- the step is for the site s with the record e; where G holds, it keeps a decision
-pub record Fits (G : Type 0) (s : ℕ) (e : Entry) (p : Step) : Type 0 where
+pub record Fits (G : Type 0) (s : ℕ) (e : Entry) (p : Plan) : Type 0 where
   pub own_site : p.site ≡ s
   pub rises : Lawful e → Risen e p.own
   pub lawful : Lawful e → Lawful p.own
@@ -32,7 +31,7 @@ pub record Fits (G : Type 0) (s : ℕ) (e : Entry) (p : Step) : Type 0 where
 
 module _ (G : Type 0) (s : ℕ) (e : Entry) where
   -- only the state changes
-  in_state_fits : (t : State) (r : Option Role) (k : Kind) (x : ℕ) → (G → decided e.state ≡ true → t ≡ e.state) → Fits G s e (step s (in_state e t) r k x)
+  in_state_fits : (t : State) (r : Option Role) (k : Kind) (x : ℕ) → (G → decided e.state ≡ true → t ≡ e.state) → Fits G s e (plan s (in_state e t) r k x)
   in_state_fits t r k x h = record {
     own_site = refl;
     rises = λ l. record { elected = le_refl e.elected; attempt = le_refl e.attempt };
@@ -41,7 +40,7 @@ module _ (G : Type 0) (s : ℕ) (e : Entry) where
   }
 
   -- the last attempt comes up to the last elected
-  attempted_in_fits : (t : State) (r : Option Role) (k : Kind) (x : ℕ) → (G → decided e.state ≡ true → t ≡ e.state) → Fits G s e (step s (attempted_in e t) r k x)
+  attempted_in_fits : (t : State) (r : Option Role) (k : Kind) (x : ℕ) → (G → decided e.state ≡ true → t ≡ e.state) → Fits G s e (plan s (attempted_in e t) r k x)
   attempted_in_fits t r k x h = record {
     own_site = refl;
     rises = λ l. record { elected = le_refl e.elected; attempt = l.2 };
@@ -50,7 +49,7 @@ module _ (G : Type 0) (s : ℕ) (e : Entry) where
   }
 
   -- the last elected rises
-  joined_fits : (n lead : ℕ) (r : Option Role) (k : Kind) (x : ℕ) → can_join e n lead ≡ true → Fits G s e (step s (joined e n lead) r k x)
+  joined_fits : (n lead : ℕ) (r : Option Role) (k : Kind) (x : ℕ) → can_join e n lead ≡ true → Fits G s e (plan s (joined e n lead) r k x)
   joined_fits n lead r k x h =
       let a = and_parts (ltb e.elected n) (ltb n 1000000 && ltb lead 16) h in
       let b = and_parts (ltb n 1000000) (ltb lead 16) a.1 in
@@ -76,7 +75,7 @@ initial_undecided state.Aborted u i d = absurd (true≢false i)
 undecided : (t u : State) → decided t ≡ false → decided t ≡ true → u ≡ t
 undecided t u n d = absurd (true≢false (sym d ∙ n))
 
-begin_fits : (v : Vote) (s all : ℕ) (e : Entry) (r : Option Role) → not (is_initial e.state) ≡ false → Fits (Unit {0}) s e (begin_step v s all e r)
+begin_fits : (v : Vote) (s all : ℕ) (e : Entry) (r : Option Role) → not (is_initial e.state) ≡ false → Fits (Unit {0}) s e (begin_plan v s all e r)
 begin_fits vote.Yes s all e r i = in_state_fits (Unit {0}) s e _ _ _ _ (λ g d. initial_undecided e.state state.Waiting i d)
 begin_fits vote.No s all e r i = attempted_in_fits (Unit {0}) s e _ _ _ _ (λ g d. initial_undecided e.state state.Aborted i d)
 

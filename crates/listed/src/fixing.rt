@@ -9,14 +9,14 @@ ghost use Rattle.listed.specs.Fixing.{fix_answer, fix_listing, listing_of};
 use crate::listing::{Listed, Listing, MOST_SETS};
 use arrayvec::ArrayVec;
 use sites::roster::FEWEST_SITES;
-use sites::set::MOST_SITES;
+use sites::set::{MOST_SITES, known, meets};
 use sites::{Refusal, SiteSet};
 
 // Has the set a site, and no unknown one?
 fn is_proper(sites: u32, group: SiteSet) -> bool
     ensures { result ≡ proper sites group }
 {
-    group != SiteSet::EMPTY && group.is_known(sites)
+    group != 0 && known(sites, group)
 }
 
 // Can every set be listed?
@@ -30,7 +30,7 @@ fn all_proper(sites: u32, sets: &[SiteSet]) -> bool
 fn meets_all(group: SiteSet, sets: &[SiteSet]) -> bool
     ensures { result ≡ list_all (meets group) sets.now }
 {
-    sets.iter().all(|other| group.meets(*other))
+    sets.iter().all(|other| meets(group, *other))
 }
 
 // Does every commit set meet every abort set?

@@ -8,12 +8,13 @@ ghost use Rattle.listed.specs.Crosses.{listing_crosses, listed_known};
 use crate::listing::Listed;
 use quorum::Policy;
 use sites::SiteSet;
+use sites::set::{includes, known};
 
 // Includes the group one of the sets?
 fn includes_one(group: SiteSet, sets: &[SiteSet]) -> bool
     ensures { result ≡ list_any (includes group) sets.now }
 {
-    sets.iter().any(|listed| group.includes(*listed))
+    sets.iter().any(|listed| includes(group, *listed))
 }
 
 impl Listed {
@@ -21,7 +22,7 @@ impl Listed {
     fn is_quorum(&self, sets: &[SiteSet], group: SiteSet) -> bool
         ensures { result ≡ listed_quorum self.now.listing.sites sets.now group }
     {
-        group.is_known(self.sites()) && includes_one(group, sets)
+        known(self.sites(), group) && includes_one(group, sets)
     }
 }
 

@@ -1,9 +1,9 @@
 -- What the steps inside of a call rely on.
 use Rattle.std.specs.Prelude.{ℕ, ◌+◌, ◌<◌, ◌≤◌}
 use Rattle.sites.specs.Sets.{size}
+use Rattle.rules.specs.Plans.{Plan}
 use Rattle.rules.specs.Posting.{places}
 use Rattle.rules.specs.World.{World, Stored, write_price}
-use Rattle.rules.specs.declared.step.Step.{Step}
 
 -- a net of n sites, of which f is one, that has sent k messages
 pub record Bounded (n f k : ℕ) : Type 0 where
@@ -18,7 +18,7 @@ pub record Near (n s : ℕ) : Type 0 where
   pub known : s < 16
 
 -- what an admitted step can count on
-pub record Within (w : World) (v : Stored) (p : Step) : Type 0 where
+pub record Within (w : World) (v : Stored) (p : Plan) : Type 0 where
   pub near : Near v.sites p.site
   pub room : w.net.sent + size p.to ≤ places w.messages
   pub left : write_price ≤ v.left

@@ -2,20 +2,20 @@
 use Rattle.std.specs.Prelude.{◌≡◌, Bool, List, Result}
 use Rattle.sites.specs.declared.refusal.Refusal.{Refusal}
 use Rattle.rules.specs.Calls.{receipt_of}
+use Rattle.rules.specs.Plans.{Plan}
 use Rattle.rules.specs.World.{World, Core, Stored, world_with, Left, admitted, after_of}
 use Rattle.rules.specs.declared.message.Message.{Message}
-use Rattle.rules.specs.declared.step.Step.{Step}
 
 -- it is admitted if there is room for it
-abbrev pub carried : Core → Stored → List Message → Result Step Refusal → Result Step Refusal
+abbrev pub carried : Core → Stored → List Message → Result Plan Refusal → Result Plan Refusal
 carried c v ms x = admitted v.left (world_with c v ms) x
 
 -- and made
-abbrev pub done : Core → Stored → List Message → Result Step Refusal → World
+abbrev pub done : Core → Stored → List Message → Result Plan Refusal → World
 done c v ms x = after_of (world_with c v ms) (carried c v ms x)
 
 -- what the receiver of a message asks for
-abbrev pub receipt : Core → Stored → List Message → Message → Result Step Refusal
+abbrev pub receipt : Core → Stored → List Message → Message → Result Plan Refusal
 receipt c v ms m = receipt_of (world_with c v ms) m
 
 -- net, list and what the vault holds are those of the world w, and the vault has paid for a write, if there was one

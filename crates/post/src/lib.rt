@@ -7,7 +7,7 @@ ghost use Rattle.sites.specs.Sets.{size};
 ghost use Rattle.post.specs.Sent.{sent_to_each, send_answer, list_after, WrittenAs};
 
 use rules::message::{Kind, Message};
-use sites::set::MOST_SITES;
+use sites::set::{MOST_SITES, has, size};
 use sites::{Refusal, Site, SiteSet};
 
 // How many places of a list count.
@@ -28,7 +28,7 @@ pub fn has_room(places: usize, sent: usize, to: SiteSet) -> bool
     ensures { result ≡ room places sent to }
 {
     let counting = places.min(LIST_PLACES);
-    sent <= counting && to.size() as usize <= counting - sent
+    sent <= counting && size(to) as usize <= counting - sent
 }
 
 impl Broadcast {
@@ -43,7 +43,7 @@ impl Broadcast {
     {
         let mut at = sent;
         for receiver in 0..MOST_SITES {
-            if self.to.has(receiver) {
+            if has(self.to, receiver) {
                 list[at] = Message {
                     kind: self.kind,
                     number: self.number,

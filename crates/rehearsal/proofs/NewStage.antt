@@ -4,7 +4,7 @@ use Rattle.std.proofs.lemmas.Bool.Decides.{nat_tests}
 use Rattle.net.specs.declared.net.Net.{Net}
 use Rattle.rehearsal.specs.Opened.{IsOpened}
 use Rattle.rows.specs.Rows.{row_opened}
-use Rattle.rules.specs.Entries.{Entry}
+use Rattle.rules.specs.declared.record.Record.{Record}
 use Rattle.rules.specs.World.{Stored, world, no_message}
 use Rattle.rules.specs.declared.message.Message.{Message}
 use Rattle.vault.specs.Opening.{opening}
@@ -17,7 +17,7 @@ pub vault_opens : (n : Net) (f : ℕ) → IsOpened n f → opening 16 n.sites f 
 vault_opens n f e = grind (arith, nat_tests)
 
 -- a new approval has a new stage
-pub new_stage_is : (b : Ballot) (n : Net) (f s : ℕ) (es : List Entry) (v : Stored) (ms : List Message) → IsOpened n f → s ≡ n.sites → length es ≡ 16 → v ≡ row_opened es s f → ms ≡ replicate 4096 no_message → stage b v.sites (world n v.entries ms) ≡ stage b n.sites (new_world n n.sites f)
+pub new_stage_is : (b : Ballot) (n : Net) (f s : ℕ) (rs : List Record) (v : Stored) (ms : List Message) → IsOpened n f → s ≡ n.sites → length rs ≡ 16 → v ≡ row_opened rs s f → ms ≡ replicate 4096 no_message → stage b v.sites (world n v.entries ms) ≡ stage b n.sites (new_world n n.sites f)
 new_stage_is b n f s es v ms o d w p r =
     let h = vault_opens n f o in
     let e : opening (length es) s f ≡ Ok tt = cc in

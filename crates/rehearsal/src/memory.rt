@@ -14,6 +14,7 @@ impl From<AllocError> for OutOfMemory {
     }
 }
 
+// A text is written into memory, so it fails for want of memory alone.
 impl From<fmt::Error> for OutOfMemory {
     fn from(_error: fmt::Error) -> OutOfMemory {
         OutOfMemory

@@ -18,9 +18,10 @@ struct SiteRecord {
 }
 
 impl fmt::Display for SiteRecord {
+    ghost use Rattle.rules.specs.Entries.{plain};
     ghost use Rattle.rehearsal.specs.Records.{record_text};
 
-    ghost output = { λ s. Some (record_text s.site s.own) };
+    ghost output = { λ s. Some (record_text s.site (plain s.own)) };
 
     fn fmt<W: fmt::Write>(&self, f: &mut fmt::Formatter<W>) -> fmt::Result {
         let Record {

@@ -1,17 +1,18 @@
 -- A row vault has one lawful record for each site, and keeps its memory.
-use Rattle.std.specs.Prelude.{◌≡◌, ℕ, length, drop, slice_index_or, refl}
+use Rattle.std.specs.Prelude.{◌≡◌, ℕ, length, take, drop, slice_index_or, refl}
 use Rattle.std.proofs.Common.{sym, ap, ◌∙◌, arith, length-take}
-use Rattle.rules.specs.Entries.{Lawful}
+use Rattle.std.proofs.lemmas.List.{length-map}
+use Rattle.rules.specs.Entries.{Lawful, plain}
 use Rattle.rules.specs.World.{no_entry}
-use Rattle.vault.specs.Records.{lawful_at}
+use Rattle.vault.specs.Records.{lawful_at, lawful_records}
 use Rattle.rows.specs.Rows.{row_stored, SameMemory}
 use Rattle.rows.specs.declared.rows.RowVault.{RowVault}
 
 pub rows_whole : (v : RowVault) → length (row_stored v).entries ≡ (row_stored v).sites
-rows_whole v = omega (arith, v.held, length-take v.sites v.rows.now)
+rows_whole v = omega (arith, v.held, length-take v.sites v.rows.now, length-map (take v.sites v.rows.now) plain)
 
 pub rows_lawful : (v : RowVault) (s : ℕ) → Lawful (slice_index_or (row_stored v).entries s no_entry)
-rows_lawful v s = lawful_at (row_stored v).entries v.written s
+rows_lawful v s = lawful_at (row_stored v).entries (lawful_records (take v.sites v.rows.now)) s
 
 pub memory_alike : (v : RowVault) → SameMemory v v
 memory_alike v = (refl, refl, refl)

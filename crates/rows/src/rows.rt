@@ -1,6 +1,4 @@
-ghost use Rattle.std.specs.Prelude.{◌≤◌, length, take};
-ghost use Rattle.std.specs.List.{All};
-ghost use Rattle.rules.specs.Entries.{Lawful};
+ghost use Rattle.std.specs.Prelude.{◌≤◌, length};
 
 mod keeping;
 
@@ -13,6 +11,4 @@ pub struct RowVault<'a> {
     rows: &'a mut [Record],
     sites: u32,
     ghost held: { sites ≤ length rows.now },
-    // The caller's memory may hold anything; the rows of the sites are records that code wrote.
-    ghost written: { All Lawful (take sites rows.now) },
 }

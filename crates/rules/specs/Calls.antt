@@ -5,7 +5,7 @@ use Rattle.sites.specs.declared.refusal.Refusal.{Refusal}
 use Rattle.sites.specs.declared.refusal.Refusal.TheVariants as refusal
 use Rattle.quorum.specs.Quorums.{Quorums}
 use Rattle.rules.specs.Counting.{counts}
-use Rattle.rules.specs.Plans.{begun, voted, received, tallied, advanced}
+use Rattle.rules.specs.Plans.{Plan, begun, voted, received, tallied, advanced}
 use Rattle.rules.specs.World.{World, Core, Stored, Left, world_with, no_message, row_at, entry_at, admitted, answer_of, after_of, count_answer, count_after, accepted}
 use Rattle.rules.specs.declared.call.Call.{Call}
 use Rattle.rules.specs.declared.call.Call.TheVariants as call
@@ -14,7 +14,6 @@ use Rattle.rules.specs.declared.message.Kind.{Kind}
 use Rattle.rules.specs.declared.message.Kind.TheVariants as kind
 use Rattle.rules.specs.declared.message.Message.{Message}
 use Rattle.rules.specs.declared.role.Role.{Role}
-use Rattle.rules.specs.declared.step.Step.{Step}
 
 -- what a call goes by besides the world: what the policy means, and the vault's number of sites and what is left in it
 pub record Terms : Type 0 where
@@ -44,7 +43,7 @@ abbrev pub everyone_of : World → ℕ
 everyone_of w = everyone w.net.sites
 
 -- begin, all but the room
-abbrev pub asked_begin : Terms → World → Vote → Result Step Refusal
+abbrev pub asked_begin : Terms → World → Vote → Result Plan Refusal
 asked_begin t w v =
     if_fitting t w
     (if_up w w.net.first
@@ -79,19 +78,19 @@ abbrev pub to_deliver : World → Result Message Refusal → Result Message Refu
 to_deliver w (Ok m) = cond (is_start m.kind) (Err refusal.WrongKind) (if_up w m.receiver (Ok m))
 to_deliver w (Err x) = Err x
 
-abbrev pub vote_of : World → Vote → Result Message Refusal → Result Step Refusal
+abbrev pub vote_of : World → Vote → Result Message Refusal → Result Plan Refusal
 vote_of w v (Ok m) = voted v m (entry_at w m.receiver) (row_at w.net m.receiver).role
 vote_of w v (Err x) = Err x
 
 -- vote, all but the room
-abbrev pub asked_vote : Terms → World → ℕ → Vote → Result Step Refusal
+abbrev pub asked_vote : Terms → World → ℕ → Vote → Result Plan Refusal
 asked_vote t w k v = vote_of w v (to_vote w (found t w k))
 
 -- deliver: a message is counted, or it makes the receiver take a step
 abbrev pub tally_of : World → Message → Result Role Refusal
 tally_of w m = tallied m (entry_at w m.receiver) (row_at w.net m.receiver).role
 
-abbrev pub receipt_of : World → Message → Result Step Refusal
+abbrev pub receipt_of : World → Message → Result Plan Refusal
 receipt_of w m = received m.kind m (entry_at w m.receiver) (row_at w.net m.receiver).role
 
 abbrev pub delivery_answer : ℕ → World → Result Message Refusal → Result (Unit {0}) Refusal
@@ -113,7 +112,7 @@ abbrev pub to_deliver_at : Terms → World → ℕ → Result Message Refusal
 to_deliver_at t w k = to_deliver w (found t w k)
 
 -- advance, all but the room
-abbrev pub asked_advance : Terms → World → ℕ → Result Step Refusal
+abbrev pub asked_advance : Terms → World → ℕ → Result Plan Refusal
 asked_advance t w s =
     if_fitting t w
     (cond (nat_lt s w.net.sites)

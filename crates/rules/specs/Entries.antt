@@ -2,6 +2,7 @@
 use Rattle.std.specs.Prelude.{ℕ, ◌<◌, ◌≤◌, Bool, true, false, cond, ◌&&◌, Some, None, Option, nat_lt}
 use Rattle.rules.specs.declared.call.Vote.{Vote}
 use Rattle.rules.specs.declared.call.Vote.TheVariants as vote
+use Rattle.rules.specs.declared.record.Record.{Record}
 use Rattle.rules.specs.declared.state.Outcome.{Outcome}
 use Rattle.rules.specs.declared.state.Outcome.TheVariants as outcome
 use Rattle.rules.specs.declared.state.State.{State}
@@ -15,6 +16,13 @@ pub record Entry : Type 0 where
 
 abbrev pub entry : State → ℕ → ℕ → ℕ → Entry
 entry t n a s = record { state = t; elected = n; attempt = a; lead = s }
+
+abbrev pub plain : Record → Entry
+plain r = entry r.state r.elected r.attempt r.lead
+
+abbrev pub plain_option : Option Record → Option Entry
+plain_option (Some r) = Some (plain r)
+plain_option None = None
 
 -- what every record keeps to
 abbrev pub Lawful : Entry → Type 0

@@ -4,13 +4,13 @@ use Rattle.sites.specs.Sets.{size}
 use Rattle.sites.specs.declared.refusal.Refusal.{Refusal}
 use Rattle.sites.specs.declared.refusal.Refusal.TheVariants as refusal
 use Rattle.rules.specs.Entries.{Entry, starting}
+use Rattle.rules.specs.Plans.{Plan}
 use Rattle.rules.specs.Posting.{broadcast, written, room, message}
 use Rattle.rules.specs.declared.message.Kind.TheVariants as kind
 use Rattle.rules.specs.declared.message.Message.{Message}
 use Rattle.rules.specs.declared.role.Role.{Role}
 use Rattle.rules.specs.declared.rows.Row.{Row}
 use Rattle.rules.specs.declared.rows.Rows.{Rows}
-use Rattle.rules.specs.declared.step.Step.{Step}
 
 -- the net: its sites, the first coordinator, how many messages were sent, and a row for each site that there can be
 pub record Core : Type 0 where
@@ -74,7 +74,7 @@ abbrev pub with_rows : Core → ℕ → List Row → Core
 with_rows c k rows = record c { sent = k; rows = record { row = rows } }
 
 -- a step was made
-abbrev pub applied : World → Step → World
+abbrev pub applied : World → Plan → World
 applied w p =
     world
     (with_rows w.net (w.net.sent + size p.to) (with_role w.net p.site p.role))
@@ -82,7 +82,7 @@ applied w p =
     (written w.messages w.net.sent (broadcast p.kind p.own.elected p.site p.to))
 
 -- the list has places for the messages of the step
-abbrev pub placed : World → Result Step Refusal → Result Step Refusal
+abbrev pub placed : World → Result Plan Refusal → Result Plan Refusal
 placed w (Ok p) = cond (room (length w.messages) w.net.sent p.to) (Ok p) (Err refusal.ListFull)
 placed w (Err x) = Err x
 
@@ -91,20 +91,20 @@ abbrev pub write_price : ℕ
 write_price = 1
 
 -- the vault has enough left for the write
-abbrev pub paid : ℕ → Result Step Refusal → Result Step Refusal
+abbrev pub paid : ℕ → Result Plan Refusal → Result Plan Refusal
 paid l (Ok p) = cond (nat_lt l write_price) (Err refusal.VaultFull) (Ok p)
 paid l (Err x) = Err x
 
 -- with l left in the vault
-abbrev pub admitted : ℕ → World → Result Step Refusal → Result Step Refusal
+abbrev pub admitted : ℕ → World → Result Plan Refusal → Result Plan Refusal
 admitted l w x = paid l (placed w x)
 
-abbrev pub answer_of : Result Step Refusal → Result (Unit {0}) Refusal
+abbrev pub answer_of : Result Plan Refusal → Result (Unit {0}) Refusal
 answer_of (Ok p) = Ok tt
 answer_of (Err x) = Err x
 
 -- a refused call changes nothing
-abbrev pub after_of : World → Result Step Refusal → World
+abbrev pub after_of : World → Result Plan Refusal → World
 after_of w (Ok p) = applied w p
 after_of w (Err x) = w
 

@@ -8,6 +8,7 @@ use crate::message::Kind;
 use crate::role::{Attempt, Canvass, Poll, Role};
 use crate::rows::Row;
 use crate::state::State;
+use sites::set::{has, with_site};
 use sites::{Refusal, Site};
 
 impl Poll {
@@ -15,7 +16,7 @@ impl Poll {
     pub(crate) fn count_yes(&mut self, site: Site)
         ensures { self.new ≡ with_yes self.old site }
     {
-        self.yes = self.yes.with_site(site);
+        self.yes = with_site(self.yes, site);
     }
 
     pub(crate) fn count_no(&mut self)
@@ -30,10 +31,10 @@ impl Canvass {
     pub(crate) fn add_report(&mut self, site: Site, state: State, attempt: u32)
         ensures { self.new ≡ with_report self.old site state attempt }
     {
-        if self.reported.has(site) {
+        if has(self.reported, site) {
             return;
         }
-        self.reported = self.reported.with_site(site);
+        self.reported = with_site(self.reported, site);
         self.aborted |= state == State::Aborted;
         self.committed |= state == State::Committed;
         if attempt > self.greatest {
@@ -50,7 +51,7 @@ impl Attempt {
     pub(crate) fn add_ack(&mut self, site: Site)
         ensures { self.new ≡ with_ack self.old site }
     {
-        self.acked = self.acked.with_site(site);
+        self.acked = with_site(self.acked, site);
     }
 }
 

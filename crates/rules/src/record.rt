@@ -1,8 +1,10 @@
+ghost use Rattle.std.specs.Prelude.{ℕ, ◌<◌, ◌≤◌};
+
 use crate::state::State;
 use sites::Site;
-use std::marker::Model;
 
-// What a site keeps over an outage: lawful by its type, so every vault takes every record.
+// What a site keeps over an outage: lawful by its type, so every vault takes every record, and what is lawful of a record is
+// known in every list. A model would hide that, and take from what holds a record that it can be passed by value twice.
 #[derive(Clone, Copy)]
 pub struct Record {
     pub state: State,
@@ -12,16 +14,8 @@ pub struct Record {
     pub attempt: u32,
     // The coordinator of the last elected number.
     pub lead: Site,
-}
-
-impl Model for Record {
-    ghost use Rattle.rules.specs.Entries.{Entry, Lawful, entry};
-
-    ghost Value = { Entry };
-
-    ghost view = { λ r. entry r.state r.elected r.attempt r.lead };
-
-    ghost invariant = { λ r. Lawful (entry r.state r.elected r.attempt r.lead) };
-
-    ghost inverse = { λ e. record { state = e.state; elected = e.elected; attempt = e.attempt; lead = e.lead } };
+    ghost counted: { 0 < elected },
+    ghost bounded: { elected < 1000000 },
+    ghost tried: { attempt ≤ elected },
+    ghost led: { lead < 16 },
 }

@@ -1,6 +1,6 @@
 // The records that a site goes through.
 ghost use Rattle.std.specs.Prelude.{◌≡◌, if◌then◌else◌, Some, None, nat_lt};
-ghost use Rattle.rules.specs.Entries.{starting, in_state, attempted_in, join, decided};
+ghost use Rattle.rules.specs.Entries.{plain, plain_option, starting, in_state, attempted_in, join, decided};
 
 use crate::record::Record;
 use crate::state::State;
@@ -18,15 +18,18 @@ impl State {
     }
 }
 
+// A struct with ghost fields is written out field by field: `..` is not covered there.
 impl Record {
     // The record that every site starts with, if the first coordinator is a site that there can be.
     pub fn starting(first: Site) -> Option<Record>
-        ensures { result ≡ (if nat_lt first 16 then Some (starting first) else None) }
+        ensures { plain_option result ≡ (if nat_lt first 16 then Some (starting first) else None) }
     {
         if first < MOST_SITES {
             Some(Record {
+                state: State::Initial,
+                elected: 1,
+                attempt: 0,
                 lead: first,
-                ..Record::blank()
             })
         } else {
             None
@@ -35,7 +38,7 @@ impl Record {
 
     // The starting record under site 0: what memory for records is filled with before it is used.
     pub fn blank() -> Record
-        ensures { result ≡ starting 0 }
+        ensures { plain result ≡ starting 0 }
     {
         Record {
             state: State::Initial,
@@ -47,31 +50,38 @@ impl Record {
 
     // The record in another state.
     pub fn in_state(self, state: State) -> Record
-        ensures { result ≡ in_state self state }
+        ensures { plain result ≡ in_state (plain self) state }
     {
-        Record { state, ..self }
+        Record {
+            state,
+            elected: self.elected,
+            attempt: self.attempt,
+            lead: self.lead,
+        }
     }
 
     // The record in the state of an attempt, or a decision, at the last elected number.
     pub fn attempted_in(self, state: State) -> Record
-        ensures { result ≡ attempted_in self state }
+        ensures { plain result ≡ attempted_in (plain self) state }
     {
         Record {
             state,
+            elected: self.elected,
             attempt: self.elected,
-            ..self
+            lead: self.lead,
         }
     }
 
     // The record under a greater number and its coordinator.
     pub fn joined(self, number: u32, lead: Site) -> Option<Record>
-        ensures { result ≡ join self number lead }
+        ensures { plain_option result ≡ join (plain self) number lead }
     {
         if self.elected < number && number <= MOST_NUMBER && lead < MOST_SITES {
             Some(Record {
+                state: self.state,
                 elected: number,
+                attempt: self.attempt,
                 lead,
-                ..self
             })
         } else {
             None

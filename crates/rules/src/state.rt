@@ -59,7 +59,7 @@ impl From<State> for char {
 }
 
 // A letter that no state is written by.
-#[derive(Clone, Copy, Debug)]
+#[derive(Clone, Copy, PartialEq, Eq, Debug)]
 pub struct UnknownLetter(pub char);
 
 // The state that a letter stands for. The two laws say that letters and states are inverse.

@@ -1,6 +1,7 @@
 // What a coordinator does by itself. The clauses `site` spare callers to look into the rules for whose step it is.
 ghost use Rattle.std.specs.Prelude.{◌≡◌, IfOk};
-ghost use Rattle.rules.specs.Plans.{begun, poll_ruling, canvass_ruling, quorum_for, ruling_of, group_of, ruled_step, advanced};
+ghost use Rattle.rules.specs.Entries.{plain};
+ghost use Rattle.rules.specs.Plans.{plain_step, planned, begun, poll_ruling, canvass_ruling, quorum_for, ruling_of, group_of, ruled_plan, advanced};
 
 use quorum::Policy;
 use rules::call::Vote;
@@ -9,6 +10,7 @@ use rules::record::Record;
 use rules::role::{Attempt, Canvass, Poll, Role, Ruling};
 use rules::state::{Outcome, State};
 use rules::step::Step;
+use sites::set::{only, without_site};
 use sites::{Refusal, Site, SiteSet};
 
 // A site that coordinates, one of the sites `all`, with its record and its role.
@@ -100,7 +102,7 @@ fn group_of(all: SiteSet, role: &Role) -> SiteSet
 impl Coordinator {
     // The first coordinator starts the approval with its own vote.
     pub fn begin(&self, vote: Vote) -> Result<Step, Refusal>
-        ensures step { result ≡ begun vote self.now.site self.now.all self.now.own self.now.role }
+        ensures step { planned result ≡ begun vote self.now.site self.now.all (plain self.now.own) self.now.role }
         ensures site { IfOk result (λ t. t.site ≡ self.now.site) }
     {
         if self.own.elected > 1 {
@@ -109,13 +111,13 @@ impl Coordinator {
         if self.own.state != State::Initial {
             return Err(Refusal::Unfit);
         }
-        let to = self.all.without_site(self.site);
+        let to = without_site(self.all, self.site);
         Ok(match vote {
             Vote::Yes => Step {
                 site: self.site,
                 own: self.own.in_state(State::Waiting),
                 role: Some(Role::Polling(Poll {
-                    yes: SiteSet::only(self.site),
+                    yes: only(self.site),
                     no: false,
                 })),
                 kind: Kind::Start,
@@ -133,10 +135,10 @@ impl Coordinator {
 
     // It carries out a ruling in its group.
     fn carry_out(&self, ruling: Ruling, group: SiteSet) -> Step
-        ensures step { result ≡ ruled_step self.now.site group self.now.own ruling }
+        ensures step { plain_step result ≡ ruled_plan self.now.site group (plain self.now.own) ruling }
         ensures site { result.site ≡ self.now.site }
     {
-        let to = group.without_site(self.site);
+        let to = without_site(group, self.site);
         match ruling {
             Ruling::Attempt(outcome) => Step {
                 site: self.site,
@@ -144,7 +146,7 @@ impl Coordinator {
                 role: Some(Role::Attempting(Attempt {
                     outcome,
                     group,
-                    acked: SiteSet::only(self.site),
+                    acked: only(self.site),
                 })),
                 kind: Kind::of_attempt(outcome),
                 to,
@@ -161,7 +163,7 @@ impl Coordinator {
 
     // Its next step, by its role.
     pub fn advance<P: Policy>(&self, policy: &P) -> Result<Step, Refusal>
-        ensures step { result ≡ advanced (P.quorums policy.now) self.now.all self.now.site self.now.own self.now.role }
+        ensures step { planned result ≡ advanced (P.quorums policy.now) self.now.all self.now.site (plain self.now.own) self.now.role }
         ensures site { IfOk result (λ t. t.site ≡ self.now.site) }
     {
         let role = self.role.ok_or(Refusal::Unfit)?;

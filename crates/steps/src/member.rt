@@ -2,8 +2,8 @@
 ghost use Rattle.std.specs.Prelude.{◌≡◌, if◌then◌else◌, Ok, Err, IfOk};
 ghost use Rattle.sites.specs.declared.refusal.Refusal.TheVariants.{Stale};
 ghost use Rattle.rules.specs.Counting.{matches, counts};
-ghost use Rattle.rules.specs.Entries.{join};
-ghost use Rattle.rules.specs.Plans.{voted, received, attempted, concluded, elected_to, tallied, role_after};
+ghost use Rattle.rules.specs.Entries.{plain, join};
+ghost use Rattle.rules.specs.Plans.{planned, voted, received, attempted, concluded, elected_to, tallied, role_after};
 ghost use Rattle.rules.specs.World.{count_answer};
 
 use rules::call::Vote;
@@ -14,11 +14,12 @@ use rules::role::Role;
 use rules::rows::Row;
 use rules::state::{Outcome, State};
 use rules::step::Step;
-use sites::{Refusal, SiteSet};
+use sites::Refusal;
+use sites::set::{EMPTY, only};
 
 // Is the receiver at the number of the message, under the coordinator that it is about? Else the message is stale.
 fn matched(own: Record, message: Message) -> Result<(), Refusal>
-    ensures { result ≡ (if matches own message then Ok tt else Err Stale) }
+    ensures { result ≡ (if matches (plain own) message then Ok tt else Err Stale) }
 {
     let coordinator = if counts(message.kind) {
         message.receiver
@@ -43,7 +44,7 @@ pub struct Receipt {
 impl Receipt {
     // The receiver of a start votes.
     pub fn vote(&self, vote: Vote) -> Result<Step, Refusal>
-        ensures step { result ≡ voted vote self.now.message self.now.own self.now.role }
+        ensures step { planned result ≡ voted vote self.now.message (plain self.now.own) self.now.role }
         ensures site { IfOk result (λ t. t.site ≡ self.now.message.receiver) }
     {
         matched(self.own, self.message)?;
@@ -55,13 +56,13 @@ impl Receipt {
             own: self.own.in_state(vote.state()),
             role: self.role,
             kind: Kind::of_vote(vote),
-            to: SiteSet::only(self.message.sender),
+            to: only(self.message.sender),
         })
     }
 
     // The receiver goes under a greater number, drops its role and reports.
     fn join(&self) -> Result<Step, Refusal>
-        ensures step { result ≡ elected_to self.now.message self.now.own (join self.now.own self.now.message.number self.now.message.sender) }
+        ensures step { planned result ≡ elected_to self.now.message (plain self.now.own) (join (plain self.now.own) self.now.message.number self.now.message.sender) }
         ensures site { IfOk result (λ t. t.site ≡ self.now.message.receiver) }
     {
         let joined = self
@@ -76,13 +77,13 @@ impl Receipt {
                 state: self.own.state,
                 attempt: self.own.attempt,
             },
-            to: SiteSet::only(self.message.sender),
+            to: only(self.message.sender),
         })
     }
 
     // An attempt reaches the receiver, which acknowledges it.
     fn acknowledge(&self, outcome: Outcome) -> Result<Step, Refusal>
-        ensures step { result ≡ attempted outcome self.now.message self.now.own self.now.role }
+        ensures step { planned result ≡ attempted outcome self.now.message (plain self.now.own) self.now.role }
         ensures site { IfOk result (λ t. t.site ≡ self.now.message.receiver) }
     {
         matched(self.own, self.message)?;
@@ -94,13 +95,13 @@ impl Receipt {
             own: self.own.attempted_in(outcome.pre_state()),
             role: self.role,
             kind: Kind::Ack,
-            to: SiteSet::only(self.message.sender),
+            to: only(self.message.sender),
         })
     }
 
     // A decision reaches the receiver, which sends nothing.
     fn conclude(&self, outcome: Outcome) -> Result<Step, Refusal>
-        ensures step { result ≡ concluded outcome self.now.message self.now.own self.now.role }
+        ensures step { planned result ≡ concluded outcome self.now.message (plain self.now.own) self.now.role }
         ensures site { IfOk result (λ t. t.site ≡ self.now.message.receiver) }
     {
         matched(self.own, self.message)?;
@@ -112,14 +113,14 @@ impl Receipt {
             own: self.own.in_state(outcome.final_state()),
             role: self.role,
             kind: Kind::of_decision(outcome),
-            to: SiteSet::EMPTY,
+            to: EMPTY,
         })
     }
 
     // The receiver of a message that is not counted takes its step, by the kind: an arm for each, since closures would hide which
     // does what.
     pub fn receive(&self) -> Result<Step, Refusal>
-        ensures step { result ≡ received self.now.message.kind self.now.message self.now.own self.now.role }
+        ensures step { planned result ≡ received self.now.message.kind self.now.message (plain self.now.own) self.now.role }
         ensures site { IfOk result (λ t. t.site ≡ self.now.message.receiver) }
     {
         match self.message.kind {
@@ -145,8 +146,8 @@ pub fn counts(kind: Kind) -> bool
 // The receiver of a message that is counted counts it, in place. The whole row is lent, so that it stays up is said too.
 pub fn tally(row: &mut Row, message: Message, own: Record) -> Result<(), Refusal>
     ensures up { row.new.up ≡ row.old.up }
-    ensures role { row.new.role ≡ role_after (tallied message own row.old.role) row.old.role }
-    ensures answer { result ≡ count_answer (tallied message own row.old.role) }
+    ensures role { row.new.role ≡ role_after (tallied message (plain own) row.old.role) row.old.role }
+    ensures answer { result ≡ count_answer (tallied message (plain own) row.old.role) }
 {
     matched(own, message)?;
     count(row, message.kind, message.sender)

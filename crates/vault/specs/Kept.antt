@@ -2,8 +2,14 @@
 use Rattle.std.specs.Prelude.{ℕ, cond, List, Ok, Err, Result, nat_lt, slice_index_or, slice_set}
 use Rattle.sites.specs.declared.refusal.Refusal.{Refusal}
 use Rattle.sites.specs.declared.refusal.Refusal.TheVariants as refusal
-use Rattle.rules.specs.Entries.{Entry}
+use Rattle.rules.specs.Entries.{Entry, plain}
 use Rattle.rules.specs.World.{Stored, no_entry, write_price, accepted, Left}
+use Rattle.rules.specs.declared.record.Record.{Record}
+
+-- the answer by the plain part of its record
+abbrev pub entry_read : Result Record Refusal → Result Entry Refusal
+entry_read (Ok r) = Ok (plain r)
+entry_read (Err x) = Err x
 
 -- the record of the site s
 abbrev pub kept : Stored → ℕ → Result Entry Refusal

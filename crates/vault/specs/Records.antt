@@ -1,11 +1,19 @@
--- Lawful records are lawful wherever one is read.
-use Rattle.std.specs.Prelude.{ℕ, List, length, slice_index_or}
+-- Records are lawful by their type, and so is what is read of a list of them.
+use Rattle.std.specs.Prelude.{ℕ, List, map, length, slice_index_or}
 use Rattle.std.specs.List.{All}
 use Rattle.std.proofs.Common.{sym, subst, ⊎_elim, arith}
 use Rattle.std.proofs.lemmas.Bool.{cases_lt}
 use Rattle.std.proofs.lemmas.List.{get_or_past}
-use Rattle.rules.specs.Entries.{Entry, Lawful}
+use Rattle.std.proofs.lemmas.List.Elements.{All-map}
+use Rattle.rules.specs.Entries.{Entry, Lawful, plain}
 use Rattle.rules.specs.World.{no_entry}
+use Rattle.rules.specs.declared.record.Record.{Record}
+
+pub lawful_plain : (r : Record) → Lawful (plain r)
+lawful_plain r = (r.counted, r.bounded, r.tried, r.led)
+
+pub lawful_records : (rs : List Record) → All Lawful (map plain rs)
+lawful_records rs = All-map Lawful plain rs (λ i d l. lawful_plain (slice_index_or rs i d))
 
 -- so is what is read past them
 pub lawful_none : Lawful no_entry

@@ -2,9 +2,9 @@
 #![tactic(auto)]
 
 ghost use Rattle.std.specs.Prelude.{◌≡◌, ℕ, length, slice_index_or};
-ghost use Rattle.rules.specs.Entries.{Lawful};
+ghost use Rattle.rules.specs.Entries.{Lawful, plain};
 ghost use Rattle.rules.specs.World.{Stored, no_entry};
-ghost use Rattle.vault.specs.Kept.{kept, write_answer, entries_written, Spent};
+ghost use Rattle.vault.specs.Kept.{entry_read, kept, write_answer, entries_written, Spent};
 
 use rules::record::Record;
 use sites::{Refusal, Site};
@@ -28,13 +28,13 @@ pub trait Vault {
 
     // The record of a site.
     fn read(&self, site: Site) -> Result<Record, Refusal>
-        ensures { result ≡ kept (stored self.now) site };
+        ensures { entry_read result ≡ kept (stored self.now) site };
 
     // Replaces the record of a site, and no other.
     fn write(&mut self, site: Site, own: Record) -> Result<(), Refusal>
         ensures answer { result ≡ write_answer (stored self.old) site }
         ensures sites { (stored self.new).sites ≡ (stored self.old).sites }
-        ensures entries { (stored self.new).entries ≡ entries_written result site own (stored self.old).entries }
+        ensures entries { (stored self.new).entries ≡ entries_written result site (plain own) (stored self.old).entries }
         ensures left { Spent result (stored self.old).left (stored self.new).left }
         ensures tied { tied self.old self.new };
 

@@ -1,5 +1,6 @@
 // The check before a vault is made on the caller's memory.
 ghost use Rattle.std.specs.Prelude.{◌≡◌};
+ghost use Rattle.vault.specs.Kept.{entry_read};
 ghost use Rattle.vault.specs.Opening.{opening, started};
 
 use rules::record::Record;
@@ -21,7 +22,7 @@ pub fn check(places: usize, sites: u32, first: Site) -> Result<(), Refusal>
 
 // The record that each site starts with in such a memory.
 pub fn start(places: usize, sites: u32, first: Site) -> Result<Record, Refusal>
-    ensures { result ≡ started (opening places sites first) first }
+    ensures { entry_read result ≡ started (opening places sites first) first }
 {
     check(places, sites, first)?;
     Ok(Record::starting(first).unwrap())

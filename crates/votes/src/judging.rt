@@ -6,6 +6,7 @@ ghost use Rattle.votes.specs.Weights.{ballot_crosses, enough_known};
 use crate::ballot::Votes;
 use quorum::Policy;
 use sites::SiteSet;
+use sites::set::{has, known};
 
 impl Votes {
     // The votes of the sites of the group.
@@ -16,7 +17,7 @@ impl Votes {
         let mut all = 0;
         // This project asks for this form: a loop over the votes with the site of each.
         for (i, v) in self.ballot.votes.iter().enumerate() {
-            if group.has(i as u32) {
+            if has(group, i as u32) {
                 all += *v;
             }
         }
@@ -27,7 +28,7 @@ impl Votes {
     fn enough(&self, needed: u32, group: SiteSet) -> bool
         ensures { result ≡ enough_votes self.now.ballot needed group }
     {
-        group.is_known(self.sites()) && needed <= self.weight(group)
+        known(self.sites(), group) && needed <= self.weight(group)
     }
 }
 

@@ -1,8 +1,9 @@
 ghost use Rattle.std.specs.Prelude.{◌≡◌, ◌<◌, ◌≤◌, ◌++◌, [], ◌∷◌, ◌^◌, length, drop, slice_index_or, Ok, Err, IfOk, MatchResult, option_map};
+ghost use Rattle.rules.specs.Entries.{plain};
 ghost use Rattle.rules.specs.World.{no_entry};
 ghost use Rattle.vault.specs.Kept.{write_answer, entries_written, Spent};
 ghost use Rattle.vault.specs.Opening.{opening};
-ghost use Rattle.journal.specs.Slots.{slots_of, last_of};
+ghost use Rattle.journal.specs.Slots.{plain_slots, slots_of, last_of};
 ghost use Rattle.journal.specs.Journal.{used_slots, journal_stored, slots_written, Appended, journal_opened, used_opened, slots_opened};
 ghost use Rattle.journal.specs.Facts.{journal_whole, journal_lawful, appended_alike, appended_chained};
 
@@ -47,10 +48,10 @@ impl Vault for JournalVault<'_> {
     // its own has it in place of the trait's, so all but `sites`, which `tied` gives, stand here again.
     fn write(&mut self, site: Site, own: Record) -> Result<(), Refusal>
         ensures answer { result ≡ write_answer (journal_stored self.old) site }
-        ensures entries { (journal_stored self.new).entries ≡ entries_written result site own (journal_stored self.old).entries }
+        ensures entries { (journal_stored self.new).entries ≡ entries_written result site (plain own) (journal_stored self.old).entries }
         ensures left { Spent result (journal_stored self.old).left (journal_stored self.new).left }
         ensures tied { Appended self.old self.new }
-        ensures slots { used_slots self.new ≡ slots_written result site own (used_slots self.old) }
+        ensures slots { used_slots self.new ≡ slots_written result site (plain own) (used_slots self.old) }
     {
         if site >= self.sites {
             return Err(Refusal::UnknownSite);
@@ -68,7 +69,7 @@ impl Vault for JournalVault<'_> {
 // sites no proof knows what was written, so the place is the site.
 fn fill(slots: &mut [Slot], own: Record)
     requires { length slots.old < 2 ^ 32 }
-    ensures { slots.new ≡ slots_of (length slots.old) own }
+    ensures { plain_slots slots.new ≡ slots_of (length slots.old) (plain own) }
 {
     for (site, slot) in slots.iter_mut().enumerate() {
         *slot = Slot {
@@ -89,7 +90,7 @@ impl<'a> JournalVault<'a> {
     // The record of a known site: its newest one, which is its starting record where it has no other.
     fn newest(&self, site: Site) -> Record
         requires { site < self.now.sites }
-        ensures { result ≡ slice_index_or (journal_stored self.now).entries site no_entry }
+        ensures { plain result ≡ slice_index_or (journal_stored self.now).entries site no_entry }
     {
         // A part of what a `&mut` behind a `&` refers to cannot be lent, so the slice is taken whole first.
         let slots = &*self.slots;
@@ -109,7 +110,7 @@ impl<'a> JournalVault<'a> {
     pub fn new(slots: &'a mut [Slot], sites: u32, first: Site) -> JournalVault<'a>
         ensures stored { journal_stored result ≡ journal_opened slots.old sites first }
         ensures used { used_slots result ≡ used_opened slots.old sites first }
-        ensures memory { result.slots.now ≡ slots_opened slots.old sites first }
+        ensures memory { plain_slots result.slots.now ≡ slots_opened slots.old sites first }
         ensures lent { result.slots.ghost_name ≡ slots.entry.ghost_name }
     {
         let Ok(own) = opening::start(slots.len(), sites, first) else {
@@ -133,7 +134,7 @@ impl<'a> JournalVault<'a> {
         ensures answer { MatchResult result (λ _. opening (length slots.old) sites first ≡ Ok tt) (λ e. opening (length slots.old) sites first ≡ Err e) }
         ensures stored { IfOk result (λ v. journal_stored v ≡ journal_opened slots.old sites first) }
         ensures used { IfOk result (λ v. used_slots v ≡ used_opened slots.old sites first) }
-        ensures memory { IfOk result (λ v. v.slots.now ≡ slots_opened slots.old sites first) }
+        ensures memory { IfOk result (λ v. plain_slots v.slots.now ≡ slots_opened slots.old sites first) }
         ensures lent { IfOk result (λ v. v.slots.ghost_name ≡ slots.entry.ghost_name) }
     {
         JournalVault::check(slots, sites, first)?;

@@ -1,6 +1,6 @@
 // The net as its users see it. This project asks that each call names its answer, the records, the roles, the list, what is left
 // and the memory, so the clauses of the calls are not one.
-ghost use Rattle.std.specs.Prelude.{◌≡◌, if◌then◌else◌, Ok, Err, nat_lt};
+ghost use Rattle.std.specs.Prelude.{◌≡◌, if◌then◌else◌, Ok, Err, IfOk, nat_lt};
 ghost use Rattle.sites.specs.declared.refusal.Refusal.TheVariants.{UnknownSite};
 ghost use Rattle.rules.specs.Calls.{answers, leaves, Spends};
 ghost use Rattle.rules.specs.World.{row_at, role_answer};
@@ -22,7 +22,8 @@ use vault::Vault;
 impl Net {
     // A new net: all sites up, no role, nothing sent.
     pub fn new(sites: u32, first: Site) -> Result<Net, Refusal>
-        ensures { result ≡ opening sites first }
+        ensures is { result ≡ opening sites first }
+        ensures bounded { IfOk result (λ n. Bounded n.sites n.first n.sent) }
     {
         if !is_seated(sites, first) {
             return Err(Refusal::SiteCount);
@@ -67,6 +68,13 @@ impl Net {
         Ok(self.known_row(site)?.role)
     }
 
+    // What holds of every net, told to whoever sees no field. It does nothing.
+    fn is_bounded(&self)
+        ensures { Bounded self.now.sites self.now.first self.now.sent }
+    {
+        let _ = &self.sites;
+    }
+
     // The first coordinator starts the approval with its own vote.
     pub fn begin<P: Policy, V: Vault>(
         &mut self,
@@ -82,9 +90,12 @@ impl Net {
         ensures left { Spends (P.quorums policy.now) (V.stored vault.old) self.old list.old (Begin vote) (V.stored vault.new).left }
         ensures sites { (V.stored vault.new).sites ≡ (V.stored vault.old).sites }
         ensures memory { V.tied vault.old vault.new }
+        ensures bounded { Bounded self.new.sites self.new.first self.new.sent }
     {
         let asked = self.find_begin(policy, vault, list, vote);
-        self.carry(vault, list, asked)
+        let answer = self.carry(vault, list, asked);
+        self.is_bounded();
+        answer
     }
 
     // The receiver of the start at a place votes.
@@ -103,9 +114,12 @@ impl Net {
         ensures left { Spends (P.quorums policy.now) (V.stored vault.old) self.old list.old (VoteOn place vote) (V.stored vault.new).left }
         ensures sites { (V.stored vault.new).sites ≡ (V.stored vault.old).sites }
         ensures memory { V.tied vault.old vault.new }
+        ensures bounded { Bounded self.new.sites self.new.first self.new.sent }
     {
         let asked = self.find_vote(policy, vault, list, place, vote);
-        self.carry(vault, list, asked)
+        let answer = self.carry(vault, list, asked);
+        self.is_bounded();
+        answer
     }
 
     // The message at a place, which is no start, is delivered to its receiver.
@@ -123,9 +137,13 @@ impl Net {
         ensures left { Spends (P.quorums policy.now) (V.stored vault.old) self.old list.old (Deliver place) (V.stored vault.new).left }
         ensures sites { (V.stored vault.new).sites ≡ (V.stored vault.old).sites }
         ensures memory { V.tied vault.old vault.new }
+        ensures bounded { Bounded self.new.sites self.new.first self.new.sent }
     {
+        self.is_bounded();
         let message = self.find_message(policy, vault, list, place)?;
-        self.act_on(vault, list, message)
+        let answer = self.act_on(vault, list, message);
+        self.is_bounded();
+        answer
     }
 
     // A coordinator takes its next step.
@@ -143,8 +161,11 @@ impl Net {
         ensures left { Spends (P.quorums policy.now) (V.stored vault.old) self.old list.old (Advance site) (V.stored vault.new).left }
         ensures sites { (V.stored vault.new).sites ≡ (V.stored vault.old).sites }
         ensures memory { V.tied vault.old vault.new }
+        ensures bounded { Bounded self.new.sites self.new.first self.new.sent }
     {
         let asked = self.find_advance(policy, vault, list, site);
-        self.carry(vault, list, asked)
+        let answer = self.carry(vault, list, asked);
+        self.is_bounded();
+        answer
     }
 }

@@ -1,5 +1,6 @@
 // From what a site is to do to what was done.
 ghost use Rattle.std.specs.Prelude.{◌≡◌, ◌<◌, true, IfOk};
+ghost use Rattle.rules.specs.Plans.{plain_step, planned};
 ghost use Rattle.rules.specs.World.{world_with, with_rows, with_role, applied, answer_of, accepted, Left};
 ghost use Rattle.net.specs.Bounds.{Near, Within};
 ghost use Rattle.net.specs.Carried.{Becomes, carried, done};
@@ -33,8 +34,8 @@ impl Net {
         asked: Result<Step, Refusal>,
     ) -> Result<Step, Refusal>
         requires { IfOk asked (λ t. Near (V.stored vault.now).sites t.site) }
-        ensures is { result ≡ carried self.now (V.stored vault.now) list.now asked }
-        ensures within { IfOk result (λ t. Within (world_with self.now (V.stored vault.now) list.now) (V.stored vault.now) t) }
+        ensures is { planned result ≡ carried self.now (V.stored vault.now) list.now (planned asked) }
+        ensures within { IfOk result (λ t. Within (world_with self.now (V.stored vault.now) list.now) (V.stored vault.now) (plain_step t)) }
     {
         let step = asked?;
         if !has_room(list.len(), self.sent, step.to) {
@@ -56,8 +57,8 @@ impl Net {
 
     // An admitted step is made: nothing in here is refused.
     fn apply<V: Vault>(&mut self, vault: &mut V, list: &mut [Message], step: Step)
-        requires { Within (world_with self.old (V.stored vault.old) list.old) (V.stored vault.old) step }
-        ensures becomes { Becomes (applied (world_with self.old (V.stored vault.old) list.old) step) true (V.stored vault.old) (V.stored vault.new) self.new list.new }
+        requires { Within (world_with self.old (V.stored vault.old) list.old) (V.stored vault.old) (plain_step step) }
+        ensures becomes { Becomes (applied (world_with self.old (V.stored vault.old) list.old) (plain_step step)) true (V.stored vault.old) (V.stored vault.new) self.new list.new }
         ensures tied { V.tied vault.old vault.new }
     {
         vault.write(step.site, step.own).unwrap();
@@ -79,8 +80,8 @@ impl Net {
         asked: Result<Step, Refusal>,
     ) -> Result<(), Refusal>
         requires { IfOk asked (λ t. Near (V.stored vault.old).sites t.site) }
-        ensures answer { result ≡ answer_of (carried self.old (V.stored vault.old) list.old asked) }
-        ensures becomes { Becomes (done self.old (V.stored vault.old) list.old asked) (accepted result) (V.stored vault.old) (V.stored vault.new) self.new list.new }
+        ensures answer { result ≡ answer_of (carried self.old (V.stored vault.old) list.old (planned asked)) }
+        ensures becomes { Becomes (done self.old (V.stored vault.old) list.old (planned asked)) (accepted result) (V.stored vault.old) (V.stored vault.new) self.new list.new }
         ensures tied { V.tied vault.old vault.new }
     {
         let step = self.admit(vault, list, asked)?;

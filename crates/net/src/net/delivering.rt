@@ -1,6 +1,7 @@
 // A delivery: a message is counted in place, or makes its receiver take a step.
 ghost use Rattle.std.specs.Prelude.{◌≡◌, ◌<◌, Ok, slice_index_or};
 ghost use Rattle.rules.specs.Calls.{delivery_answer, delivery_after, delivery_writes};
+ghost use Rattle.rules.specs.Entries.{plain};
 ghost use Rattle.rules.specs.Plans.{tallied, role_after};
 ghost use Rattle.rules.specs.World.{world_with, row_at, no_entry, with_rows, with_role, count_answer, count_net, answer_of, accepted, Left};
 ghost use Rattle.net.specs.Bounds.{Near};
@@ -18,8 +19,8 @@ impl Net {
     // Counts a message in the row of its receiver.
     fn count_row(&mut self, message: Message, own: Record) -> Result<(), Refusal>
         requires { message.receiver < 16 }
-        ensures answer { result ≡ count_answer (tallied message own (row_at self.old message.receiver).role) }
-        ensures net { self.new ≡ with_rows self.old self.old.sent (with_role self.old message.receiver (role_after (tallied message own (row_at self.old message.receiver).role) (row_at self.old message.receiver).role)) }
+        ensures answer { result ≡ count_answer (tallied message (plain own) (row_at self.old message.receiver).role) }
+        ensures net { self.new ≡ with_rows self.old self.old.sent (with_role self.old message.receiver (role_after (tallied message (plain own) (row_at self.old message.receiver).role) (row_at self.old message.receiver).role)) }
     {
         member::tally(&mut self.rows.row[message.receiver as usize], message, own)
     }

@@ -4,6 +4,8 @@
 ghost use Rattle.std.specs.Prelude.{◌≡◌, ◌<◌, nat_lt, ◌≤◌, if◌then◌else◌, Ok, Err, IfOk, slice_index_or};
 ghost use Rattle.sites.specs.declared.refusal.Refusal.TheVariants.{WrongPower, UnknownSite};
 ghost use Rattle.rules.specs.Calls.{terms, if_fitting, asked_begin, asked_vote, asked_advance, found, to_deliver_at, sound};
+ghost use Rattle.rules.specs.Entries.{plain};
+ghost use Rattle.rules.specs.Plans.{planned};
 ghost use Rattle.rules.specs.World.{world_with, row_at, no_entry};
 ghost use Rattle.net.specs.Bounds.{Near};
 
@@ -15,7 +17,8 @@ use rules::record::Record;
 use rules::records::MOST_NUMBER;
 use rules::rows::Row;
 use rules::step::Step;
-use sites::{Refusal, Site, SiteSet};
+use sites::set::everyone;
+use sites::{Refusal, Site};
 use steps::coordinator::Coordinator;
 use steps::member::Receipt;
 use vault::Vault;
@@ -23,7 +26,7 @@ use vault::Vault;
 // The record of a site that the vault has.
 pub(super) fn record_of<V: Vault>(vault: &V, site: Site) -> Record
     requires { site < (V.stored vault.now).sites }
-    ensures { result ≡ slice_index_or (V.stored vault.now).entries site no_entry }
+    ensures { plain result ≡ slice_index_or (V.stored vault.now).entries site no_entry }
 {
     vault.read(site).unwrap()
 }
@@ -83,7 +86,7 @@ impl Net {
         list: &[Message],
         vote: Vote,
     ) -> Result<Step, Refusal>
-        ensures is { result ≡ asked_begin (terms (P.quorums policy.now) (V.stored vault.now)) (world_with self.now (V.stored vault.now) list.now) vote }
+        ensures is { planned result ≡ asked_begin (terms (P.quorums policy.now) (V.stored vault.now)) (world_with self.now (V.stored vault.now) list.now) vote }
         ensures near { IfOk result (λ t. Near (V.stored vault.now).sites t.site) }
     {
         self.fit(policy, vault, list)?;
@@ -91,7 +94,7 @@ impl Net {
         let row = self.row_up(first)?;
         let coordinator = Coordinator {
             site: first,
-            all: SiteSet::everyone(self.sites),
+            all: everyone(self.sites),
             own: record_of(vault, first),
             role: row.role,
         };
@@ -106,7 +109,7 @@ impl Net {
         list: &[Message],
         site: Site,
     ) -> Result<Step, Refusal>
-        ensures is { result ≡ asked_advance (terms (P.quorums policy.now) (V.stored vault.now)) (world_with self.now (V.stored vault.now) list.now) site }
+        ensures is { planned result ≡ asked_advance (terms (P.quorums policy.now) (V.stored vault.now)) (world_with self.now (V.stored vault.now) list.now) site }
         ensures near { IfOk result (λ t. Near (V.stored vault.now).sites t.site) }
     {
         self.fit(policy, vault, list)?;
@@ -117,7 +120,7 @@ impl Net {
         }
         let coordinator = Coordinator {
             site,
-            all: SiteSet::everyone(self.sites),
+            all: everyone(self.sites),
             own: record_of(vault, site),
             role: row.role,
         };
@@ -180,7 +183,7 @@ impl Net {
         place: u32,
         vote: Vote,
     ) -> Result<Step, Refusal>
-        ensures is { result ≡ asked_vote (terms (P.quorums policy.now) (V.stored vault.now)) (world_with self.now (V.stored vault.now) list.now) place vote }
+        ensures is { planned result ≡ asked_vote (terms (P.quorums policy.now) (V.stored vault.now)) (world_with self.now (V.stored vault.now) list.now) place vote }
         ensures near { IfOk result (λ t. Near (V.stored vault.now).sites t.site) }
     {
         let message = self.find(policy, vault, list, place)?;

@@ -1,6 +1,6 @@
 ghost use Rattle.std.specs.Prelude.{◌≡◌, length, Ok, Err, IfOk, MatchResult};
 ghost use Rattle.vault.specs.Opening.{opening};
-ghost use Rattle.rows.specs.Rows.{row_stored, row_opened, rows_opened, SameMemory};
+ghost use Rattle.rows.specs.Rows.{row_stored, plain_rows, row_opened, rows_opened, SameMemory};
 ghost use Rattle.rows.specs.Facts.{rows_whole, rows_lawful, memory_alike, memory_chained};
 
 use super::RowVault;
@@ -59,7 +59,7 @@ impl<'a> RowVault<'a> {
     // A vault with the starting record of each site; one of 0 sites where the check refuses.
     pub fn new(rows: &'a mut [Record], sites: u32, first: Site) -> RowVault<'a>
         ensures stored { row_stored result ≡ row_opened rows.old sites first }
-        ensures memory { result.rows.now ≡ rows_opened rows.old sites first }
+        ensures memory { plain_rows result.rows.now ≡ rows_opened rows.old sites first }
         ensures lent { result.rows.ghost_name ≡ rows.entry.ghost_name }
     {
         let Ok(own) = opening::start(rows.len(), sites, first) else {
@@ -74,7 +74,7 @@ impl<'a> RowVault<'a> {
     pub fn open(rows: &'a mut [Record], sites: u32, first: Site) -> Result<RowVault<'a>, Refusal>
         ensures answer { MatchResult result (λ _. opening (length rows.old) sites first ≡ Ok tt) (λ e. opening (length rows.old) sites first ≡ Err e) }
         ensures stored { IfOk result (λ v. row_stored v ≡ row_opened rows.old sites first) }
-        ensures memory { IfOk result (λ v. v.rows.now ≡ rows_opened rows.old sites first) }
+        ensures memory { IfOk result (λ v. plain_rows v.rows.now ≡ rows_opened rows.old sites first) }
         ensures lent { IfOk result (λ v. v.rows.ghost_name ≡ rows.entry.ghost_name) }
     {
         RowVault::check(rows, sites, first)?;
