@@ -7,4 +7,4 @@ mod read;
 mod words;
 
 pub use line::{Ballots, Line, Reading, Roster, Section};
-pub use read::read_line;
+pub use read::{read_fields, read_line};

@@ -1,4 +1,5 @@
-ghost use Rattle.std.specs.Prelude.{◌≡◌};
+ghost use Rattle.std.specs.Prelude.{◌≡◌, ◌+◌, ◌<◌, ◌^◌, IfSome, slice_get};
+ghost use Rattle.tokens.specs.Rows.{AreNumbered};
 ghost use Rattle.schedule.specs.Words.{keyword_of};
 ghost use Rattle.schedule.specs.Lines.{form, spelled, first_read, after_first};
 
@@ -26,9 +27,9 @@ fn by_word(word: &[u8], place: Place, fields: &mut Fields, section: Section) -> 
     }
 }
 
-// What the line of the fields says.
+// What the line says of which the fields are left, all of them or, where it is begun, those that were not taken yet.
 #[tactic(auto, unfolding(crate::specs::Lines::spelled))]
-fn line_of(fields: &mut Fields, section: Section) -> Result<Line, Place>
+pub fn read_fields(fields: &mut Fields, section: Section) -> Result<Line, Place>
     ensures { result ≡ spelled section fields.old }
 {
     match fields.next_token() {
@@ -41,10 +42,14 @@ fn line_of(fields: &mut Fields, section: Section) -> Result<Line, Place>
 pub fn read_line(reader: &mut Reader, section: Section) -> Option<Reading>
     ensures told { result ≡ first_read section reader.old }
     ensures passes { reader.new ≡ after_first reader.old }
+    ensures counted { IfSome result (λ r. r.number < 2 ^ 63) }
+    ensures numbered { AreNumbered reader.old }
+    ensures follows { IfSome result
+        (λ r. IfSome (slice_get reader.new 0) (λ next. next.place.line ≡ r.number + 1)) }
 {
     let mut fields = reader.next_line()?;
     Some(Reading {
         number: fields.line(),
-        line: line_of(&mut fields, section),
+        line: read_fields(&mut fields, section),
     })
 }

@@ -1,5 +1,5 @@
 -- A text is cut at its first newline, and a line at its first comma.
-use Rattle.std.proofs.Common.{◌≡◌, ℕ, suc, ◌+◌, ◌-◌, ◌<◌, ◌≤◌, Bool, true, false, eqb, leb, min, List, [], ◌∷◌, length, drop, refl, sym, ap, ◌∙◌, one-add, arith}
+use Rattle.std.proofs.Common.{◌≡◌, ℕ, suc, ◌+◌, ◌-◌, ◌<◌, ◌≤◌, Bool, true, false, eqb, ltb, leb, min, is_some, IfSome, slice_get, List, [], ◌∷◌, length, drop, refl, sym, ap, ◌∙◌, one-add, arith}
 use Rattle.std.specs.List.{before_first, position_or_len, onto_first}
 use Rattle.std.proofs.lemmas.List.{drop-drop, drop_min, length-drop, length-take-le}
 use Rattle.std.proofs.lemmas.List.Sums.{prefix_len-le-length}
@@ -30,6 +30,23 @@ first_line (b ∷ c ∷ cs) h = go (eqb b 10) refl (first_line (c ∷ cs) (omega
         let n = position_or_len newline (c ∷ cs) in
         let e : drop (1 + n + 1) (b ∷ c ∷ cs) ≡ drop (n + 1) (c ∷ cs) = ap (λ k. drop k (b ∷ c ∷ cs)) (let h : 1 + n + 1 ≡ suc (n + 1) = omega arith in h) in
         rw (q, e, one-add) (ap (onto_first b) more)
+
+-- the first of the rows of some lines has the number that they are counted from
+pub first_number : (n : ℕ) (ls : List (List ℕ)) → IfSome (slice_get (rows n ls) 0) (λ r. r.place.line ≡ n)
+first_number n [] = tt
+first_number n (l ∷ ls) = refl
+
+some_row : (n : ℕ) (bs : List ℕ) → ltb 0 (length bs) ≡ is_some (slice_get (rows n (lines bs)) 0)
+some_row n [] = refl
+some_row n (b ∷ bs) =
+    let t : ltb 0 (suc (length bs)) ≡ true = grind (arith, nat_tests) in
+    rw (first_line (b ∷ bs) (omega arith)) t
+
+-- a row is left where the next line begins before the end of the text
+pub row_left : (s : List ℕ) (at n : ℕ) → ltb at (length s) ≡ is_some (slice_get (rows n (lines (drop at s))) 0)
+row_left s at n =
+    let t : ltb at (length s) ≡ ltb 0 (length s - at) = grind (arith, nat_tests) in
+    t ∙ rw (← length-drop at s) (some_row n (drop at s))
 
 from_within : (at : ℕ) (bs : List ℕ) → at ≤ length bs → fields_from at bs ≡ fields (drop at bs)
 from_within at bs h = rw (le-leb at (length bs) h)

@@ -1,5 +1,5 @@
 -- Lines as rows of fields, and the tokens that they give.
-use Rattle.std.specs.Prelude.{ℕ, ◌+◌, List, [], ◌∷◌, Some, None, Option}
+use Rattle.std.specs.Prelude.{◌≡◌, ℕ, ◌+◌, List, [], ◌∷◌, Some, None, Option}
 use Rattle.number.specs.Numbers.{numeral}
 use Rattle.tokens.specs.declared.token.Place.{Place}
 use Rattle.tokens.specs.Text.{fields}
@@ -19,6 +19,10 @@ row p fs = record { place = p; fields = fs }
 abbrev pub rows : ℕ → List (List ℕ) → List Row
 rows n [] = []
 rows n (l ∷ ls) = row (place_at n 1) (fields l) ∷ rows (n + 1) ls
+
+-- the rows of some lines, numbered one after another
+abbrev pub AreNumbered : List Row → Type 0
+AreNumbered rs = (n : ℕ) × ((ls : List (List ℕ)) × (rs ≡ rows n ls))
 
 -- a token, by what it holds
 pub data Seen : Type 0 where

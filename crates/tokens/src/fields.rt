@@ -1,7 +1,7 @@
-ghost use Rattle.std.specs.Prelude.{◌≡◌, ◌<◌, ◌^◌, length};
+ghost use Rattle.std.specs.Prelude.{◌≡◌, ◌+◌, ◌<◌, ◌^◌, length};
 ghost use Rattle.tokens.specs.Text.{fields};
 ghost use Rattle.tokens.specs.Rows.{place_at, row, token, past};
-ghost use Rattle.tokens.specs.Seen.{seen};
+ghost use Rattle.tokens.specs.Seen.{seen, place_of};
 
 use crate::part::up_to;
 use crate::token::{Place, Token};
@@ -32,6 +32,7 @@ impl<'a> Model for Fields<'a> {
 
 impl<'a> Fields<'a> {
     pub(crate) fn new(line: &'a [u8], number: usize) -> Self
+        requires { number < 2 ^ 63 }
         ensures { result ≡ row (place_at number 1) (fields line.now) }
     {
         Fields {
@@ -46,7 +47,8 @@ impl<'a> Fields<'a> {
 
     // The number of the line.
     pub fn line(&self) -> usize
-        ensures { result ≡ self.now.place.line }
+        ensures told { result ≡ self.now.place.line }
+        ensures counted { result < 2 ^ 63 }
     {
         self.place.line
     }
@@ -55,6 +57,8 @@ impl<'a> Fields<'a> {
     pub fn next_token(&mut self) -> Token<'a>
         ensures told { seen result ≡ token self.old }
         ensures moves { self.new ≡ past self.old }
+        ensures numbered { (place_of (seen result)).line < 2 ^ 63 }
+        ensures counted { (place_of (seen result)).field < 2 ^ 63 + 2 }
     {
         let place = self.place;
         if self.at > self.line.len() {

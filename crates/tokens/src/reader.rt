@@ -1,6 +1,6 @@
-ghost use Rattle.std.specs.Prelude.{◌≡◌, ◌<◌, ◌^◌, IfSome, drop, slice_get};
+ghost use Rattle.std.specs.Prelude.{◌≡◌, ◌+◌, ◌<◌, ◌≤◌, ◌^◌, IfSome, drop, is_some, slice_get};
 ghost use Rattle.tokens.specs.Text.{lines};
-ghost use Rattle.tokens.specs.Rows.{rows};
+ghost use Rattle.tokens.specs.Rows.{rows, AreNumbered};
 
 use crate::fields::Fields;
 use crate::part::up_to;
@@ -40,11 +40,30 @@ impl<'a> Reader<'a> {
         }
     }
 
+    // Is a line left?
+    pub fn has_line(&self) -> bool
+        ensures { result ≡ is_some (slice_get self.now 0) }
+    {
+        self.at < self.input.len()
+    }
+
+    // The number of the line that is read next, if one is left.
+    pub fn line(&self) -> usize
+        ensures told { IfSome (slice_get self.now 0) (λ r. r.place.line ≡ result) }
+        ensures counted { result ≤ 2 ^ 63 }
+    {
+        let Reader { line, .. } = self;
+        *line
+    }
+
     // The fields of the next line, which is passed; none where no line is left.
     pub fn next_line(&mut self) -> Option<Fields<'a>>
         ensures told { result ≡ slice_get self.old 0 }
         ensures passes { self.new ≡ drop 1 self.old }
         ensures counted { IfSome result (λ f. f.place.line < 2 ^ 63) }
+        ensures numbered { AreNumbered self.old }
+        ensures follows { IfSome result
+            (λ f. IfSome (slice_get self.new 0) (λ r. r.place.line ≡ f.place.line + 1)) }
     {
         if self.at >= self.input.len() {
             return None;

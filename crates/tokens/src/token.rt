@@ -22,7 +22,8 @@ pub enum Token<'a> {
 
 impl<'a> Token<'a> {
     pub(crate) fn of_field(field: &'a [u8], place: Place) -> Self
-        ensures { seen result ≡ field_seen (numeral field.now) field.now place }
+        ensures told { seen result ≡ field_seen (numeral field.now) field.now place }
+        ensures placed { place_of (seen result) ≡ place }
     {
         match number_of(field) {
             Some(number) => Token::Number(field, number, place),
