@@ -47,13 +47,18 @@ impl<'a> Reader<'a> {
         self.at < self.input.len()
     }
 
-    // The number of the line that is read next, if one is left.
+    // The number of the line that is read next, if one is left. Past the last line it is the next number, or, where the newline of that
+    // line is missing, still its own.
     pub fn line(&self) -> usize
         ensures told { IfSome (slice_get self.now 0) (λ r. r.place.line ≡ result) }
         ensures counted { result ≤ 2 ^ 63 }
     {
         let Reader { line, .. } = self;
-        *line
+        if self.has_line() || matches!(self.input, [] | [.., b'\n']) {
+            *line
+        } else {
+            line.saturating_sub(1)
+        }
     }
 
     // The fields of the next line, which is passed; none where no line is left.

@@ -52,8 +52,10 @@ impl Net {
 
     // Is the site up?
     pub fn is_up(&self, site: Site) -> Result<bool, Refusal>
-        ensures { result ≡ (if nat_lt site self.now.sites then Ok (row_at self.now site).up else Err UnknownSite) }
+        ensures is { result ≡ (if nat_lt site self.now.sites then Ok (row_at self.now site).up else Err UnknownSite) }
+        ensures bounded { Bounded self.now.sites self.now.first self.now.sent }
     {
+        self.is_bounded();
         // Taken apart here: for `?` on a row whose role is not used, the checker answers with a fault of its own.
         match self.known_row(site) {
             Ok(Row { up, .. }) => Ok(up),
@@ -63,8 +65,10 @@ impl Net {
 
     // What the site is doing as a coordinator, if it is one.
     pub fn role(&self, site: Site) -> Result<Option<Role>, Refusal>
-        ensures { result ≡ role_answer self.now site }
+        ensures is { result ≡ role_answer self.now site }
+        ensures bounded { Bounded self.now.sites self.now.first self.now.sent }
     {
+        self.is_bounded();
         Ok(self.known_row(site)?.role)
     }
 

@@ -4,7 +4,7 @@ use Rattle.tokens.specs.Text.{lines}
 use Rattle.tokens.proofs.Cuts.{first_number}
 use Rattle.tokens.proofs.reader.Reader.line.Goals as goal
 
-pub returns-clause-told : goal.returns-clause-told
-returns-clause-told c =
+pub returns-then-matches-clause-told : goal.returns-then-matches-clause-told
+returns-then-matches-clause-told c =
     let r = c.self.inside in
     rw (← c.self.view_is) (first_number r.line (lines (drop r.at r.input.now)))
