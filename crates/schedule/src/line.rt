@@ -9,8 +9,8 @@ pub struct Roster {
     pub first: u32,
 }
 
-// A policy's two numbers and the votes of each of the sites, followed by zeros, as they were read. No ballot of a policy: reading
-// stands on none.
+// A policy's two numbers and the votes of each of the sites, followed by zeros, as they were read. Places and no vector of fixed
+// capacity, which could not be copied; no ballot of a policy: reading stands on none.
 #[derive(Clone, Copy)]
 pub struct Ballots {
     pub commit: u32,
